@@ -20,17 +20,11 @@ mod frame_call;
 mod frame_events;
 mod frame_replies;
 mod frame_sink;
-#[cfg(test)]
-mod frame_tests;
 mod laws;
-#[cfg(test)]
-mod tests;
 mod timed_call;
 mod timed_events;
 mod timed_replies;
 mod timed_sink;
-#[cfg(test)]
-mod timed_tests;
 
 pub use call::drive;
 pub use frame_call::drive_frames;

@@ -1,7 +1,9 @@
 -- No answer is awaited longer than T200 may run out.
-use Rattle.laws_time.proofs.Vocabulary.{Answer, ArePrompt as TimedArePrompt, Bool, Clock, Config, Control, Event, Expiry, IsInRange, IsNoExpiry, Lengths, List, Moment, NoAnswerIsAwaitedLonger, None, Observed, Option, Parts, Service, Some, StaysIn, Step, T200, TimedCard, Timer, View, [], after_all as timed_after_all, and-false, anew, ap, append-nil, append_assoc, arith, at, at_moment, both-true}
-use Rattle.laws_time.proofs.Vocabulary.{by_event, by_frame, by_t200, cond, due, eqb-true, event_of, events_of, expiry, falls_due, false, frame_in, inl, is_anew, is_of, is_on, is_own, is_same, is_some, is_too_long, ltb-true, may_repeat, moment_at as moment_of, mul-le, nat_le, next, not, of_frames, option_map, option_map_or, option_to_list, refl, request, runs, same_service, services-equal, state}
-use Rattle.laws_time.proofs.Vocabulary.{step_happens as happens, subst, sym, time, timed_events_of, true, true≢false, view_behind, view_of, while_down, while_up, without_first, ℕ, ◌&&◌, ◌*◌, ◌++◌, ◌+◌, ◌-◌, ◌<◌, ◌==◌, ◌||◌, ◌∙◌, ◌∷◌, ◌≡◌, ◌≤◌}
+use Rattle.laws_time.proofs.Vocabulary.{Answer, ArePrompt as TimedArePrompt, Bool, Clock, Config, Event, Expiry, IsInRange, Lengths, List, NoAnswerIsAwaitedLonger, None, Observed, Option, Parts, Service, Some, StaysIn, Step, T200, TimedCard, Timer, View, [], after_all as timed_after_all, and-false, anew, ap, append-nil, append_assoc, arith, at, at_moment, by_event, by_frame}
+use Rattle.laws_time.proofs.Vocabulary.{Moment}
+use Rattle.laws_time.proofs.Vocabulary.{by_t200, cond, due, eqb-true, event_of, events_of, expiry, falls_due, false, inl, is_anew, is_of, is_on, is_same, is_some, is_waiting, ltb-true, may_repeat, moment_at as moment_of, mul-le, nat_le, not, of_frames, option_map, option_map_or, option_to_list, refl, runs, state, step_happens as happens, subst, sym, time}
+use Rattle.laws_time.proofs.Vocabulary.{timed_events_of}
+use Rattle.laws_time.proofs.Vocabulary.{true, true≢false, view_behind, view_of, without_first, ℕ, ◌&&◌, ◌*◌, ◌++◌, ◌+◌, ◌-◌, ◌<◌, ◌==◌, ◌||◌, ◌∙◌, ◌∷◌, ◌≡◌, ◌≤◌}
 use Rattle.lapd_frame.specs.declared.timers.Timer.TheVariants as timers
 use Rattle.model_line.specs.Event as line_event
 use Rattle.model_line.specs.Event.{hears}
@@ -11,49 +13,26 @@ use Rattle.model_card.specs.Run as runs_of
 use Rattle.model_timed.specs.Frames.{fresh, after, after_all, ArePrompt}
 use Rattle.laws_time.proofs.TimedFrames.{with_event, expiry_of, with_expiry as timed_expiry, IsPrompt}
 use Rattle.laws_time.proofs.Links.{view-then, on-where, state-is, elsewhere, stays-on}
-use Rattle.laws_time.proofs.Moments.{differs}
+use Rattle.laws_time.proofs.Moments.{at-lines, differs, each-timer, foreign-t200, is_own_t200}
 use Rattle.laws_time.proofs.Walk.{Stands, Holds, seen, step, q-is}
+use Rattle.laws_time.proofs.ArrivalsOneEvent.{no-expiry}
 use Rattle.laws_time.proofs.Falls.{in-time}
 use Rattle.laws_time.proofs.Before.{Goes, other-line, step-goes, dropped-holds, before-goes, begins, t200-leads, expired-anew}
 use Rattle.laws_time.proofs.Phases.{one-more}
-use Rattle.laws_time.proofs.OfCircuit.Moments.{is_waiting, awaits-in, not-anew}
+use Rattle.laws_time.proofs.OfCircuit.Moments.{awaits-in, not-anew}
 use Rattle.laws_time.proofs.Effects.{sent-like}
 
-abbrev is_own_t200 : Service → ℕ → line_event.Event → Bool
-is_own_t200 service tei (expiry (timers.T200 of by)) = is_own service tei of by
-is_own_t200 service tei other = false
-
--- a frame that is heard
-up-same : (long command : Bool) (k : Control) (o : Observed) → nat_le 7 o.state ≡ true → is_waiting o.state ≡ true → (while_up long command k o).state ≡ o.state → (while_up long command k o).expiries ≡ o.expiries
-up-same long command k o up waits same = grind arith
-
-down-same : (c : Config) (k : Control) (o : Observed) → nat_le 7 o.state ≡ false → is_waiting o.state ≡ true → (while_down c k o).state ≡ o.state → (while_down c k o).expiries ≡ o.expiries
-down-same c k o down waits same = grind arith
-
+-- A frame that is heard.
 framed-same : (c : Config) (o : Observed) (f : Parts) → is_waiting o.state ≡ true → (by_frame c o f).state ≡ o.state → (by_frame c o f).expiries ≡ o.expiries
-framed-same c o f waits = go (nat_le 7 o.state) refl
-  where
-    x : Observed
-    x = while_up (is_too_long c f) f.address.command f.control o
-
-    y : Observed
-    y = while_down c f.control o
-
-    go : (b : Bool) → nat_le 7 o.state ≡ b → (cond b x y).state ≡ o.state → (cond b x y).expiries ≡ o.expiries
-    go true up same = up-same (is_too_long c f) f.address.command f.control o up waits same
-    go false down same = down-same c f.control o down waits same
+framed-same c o f waits = grind arith
 
 heard-count : (c : Config) (o : Observed) (m : Bool) (f : Option Parts) → is_waiting o.state ≡ true
     → let q = cond (nat_le 7 o.state && m) (anew o) (option_map_or (by_frame c o) f o) in q.state ≡ o.state → q.expiries ≡ o.expiries
-heard-count c o m None waits same = grind arith
-heard-count c o m (Some f) waits same = grind (arith, framed-same)
+heard-count c o m f h1z h2z = grind (arith, framed-same)
 
 counts-same : (c : Config) (service : Service) (tei : ℕ) (what : line_event.Event) (a : Answer) (o : Observed) → is_own_t200 service tei what ≡ false → is_waiting o.state ≡ true
     → (by_event c service tei what a o).state ≡ o.state → (by_event c service tei what a o).expiries ≡ o.expiries
-counts-same c service tei (hears e) a o other waits same = heard-count c o _ _ waits same
-counts-same c service tei (request r) a o other waits same = grind arith
-counts-same c service tei (expiry timer) a o other waits same = grind arith
-counts-same c service tei next a o other waits same = (sent-like c service tei o (frame_in a)).expiries
+counts-same c service tei what a o h1z h2z h3z = grind (arith, heard-count, sent-like)
 
 -- T200 expires there: it does so once more, or the state is left.
 led-on : (c : Config) (o : Observed) → is_waiting o.state ≡ true → may_repeat c o ≡ true → by_t200 c o ≡ record o { expiries = o.expiries + 1 }
@@ -61,9 +40,6 @@ led-on c o waits less = grind (arith, eqb-true)
 
 led-out : (c : Config) (o : Observed) → is_waiting o.state ≡ true → may_repeat c o ≡ false → (by_t200 c o).state ≡ o.state → ⊥
 led-out c o waits none same = grind (arith, eqb-true)
-
-no-expiry : (service : Service) (tei : ℕ) (what : line_event.Event) → IsNoExpiry what → is_own_t200 service tei what ≡ false
-no-expiry service tei what none = grind arith
 
 module _ (c : Config) (lengths : Lengths) (late number : ℕ) (ranged : IsInRange c) (within : number < c.lines) (service : Service) (tei n limit : ℕ) (waiting : is_waiting n ≡ true) where
   abbrev G : List Event → TimedCard → Type 0
@@ -194,14 +170,9 @@ module _ (c : Config) (lengths : Lengths) (late number : ℕ) (ranged : IsInRang
       → ((e.line == number) ≡ false → H events u.clock (D (o_at events).expiries))
       → (G (events ++ at number e.what ∷ []) (with_event (at number e.what) u) → IsThere events (at number e.what) → Awaits (events ++ at number e.what ∷ []) (with_event (at number e.what) u))
       → Awaits (events ++ e ∷ []) (with_event e u)
-  event-awaits events t u w s e g there apart here = go (e.line == number) refl
-    where
-      go : (b : Bool) → (e.line == number) ≡ b → Awaits (events ++ e ∷ []) (with_event e u)
-      go false other = elsewhere-awaits events t u w s e other g there (apart other)
-      go true own_line =
-          let is = eqb-true e.line number own_line in
-          subst (λ n. Awaits (events ++ at n e.what ∷ []) (with_event (at n e.what) u)) (sym is)
-          (here (subst (λ n. G (events ++ at n e.what ∷ []) (with_event (at n e.what) u)) is g) (subst (λ n. IsThere events (at n e.what)) is there))
+  event-awaits events t u w s e g there apart here =
+      at-lines number (λ e. G (events ++ e ∷ []) (with_event e u) → IsThere events e → Awaits (events ++ e ∷ []) (with_event e u)) e
+      (λ other g there. elsewhere-awaits events t u w s e other g there (apart other)) (λ own_line. here) g there
 
   -- A timer falls due.
   module _ (events : List Event) (t : TimedCard) (w : Awaits events t) (x : Expiry) (is : due t.clock ≡ Some x) where
@@ -226,17 +197,10 @@ module _ (c : Config) (lengths : Lengths) (late number : ℕ) (ranged : IsInRang
         still events t u w based (expiry timer) g there none (dropped (by-timer (ap (λ timer. is_same timer (timers.T200 service tei)) same ∙ other)))
 
     any : (timer : Timer) → x.timer ≡ timer → Own timer
-    any timers.T201 same = foreign timers.T201 same refl refl
-    any timers.T202 same = foreign timers.T202 same refl refl
-    any (timers.T203 of by) same = foreign (timers.T203 of by) same refl refl
-    any (timers.T200 of by) same = go (is_own service tei of by) refl
-      where
-        go : (b : Bool) → is_own service tei of by ≡ b → Own (timers.T200 of by)
-        go false none = foreign (timers.T200 of by) same none (differs service tei (timers.T200 of by) (timers.T200 service tei) (inl refl) none)
-        go true mine =
-            let parts = both-true (same_service of service) (by == tei) mine in
-            let is_it : timers.T200 of by ≡ timers.T200 service tei = ap (λ s. timers.T200 s by) (services-equal of service parts.0) ∙ ap (timers.T200 service) (eqb-true by tei parts.1) in
-            subst Own (sym is_it) (expired events t u w based refl)
+    any =
+        each-timer service tei (λ timer. x.timer ≡ timer → Own timer)
+        (λ timer none same. foreign timer same (foreign-t200 service tei timer none) (differs service tei timer (timers.T200 service tei) (inl refl) none))
+        (λ same. expired events t u w based refl) (λ same. foreign (timers.T203 service tei) same refl refl)
 
     fell-awaits : G (events ++ expiry_of x ∷ []) (with_event (expiry_of x) u) → IsThere events (expiry_of x) → Awaits (events ++ expiry_of x ∷ []) (with_event (expiry_of x) u)
     fell-awaits g there =

@@ -1,6 +1,6 @@
 -- One event of a line: how soon T200 falls due then, and that N200 is not used up by it.
-use Rattle.laws_time.proofs.Vocabulary.{Bool, Clock, Config, Event, Expiry, IsInRange, IsNoExpiry, Lengths, List, None, Observed, Service, Some, T200, TimedCard, Timer, [], ap, arith, at, brings, by_event, cond, counted, eq-eqb, eqb-true, expiry, false, filter, first_due, in_state, inl, inr, is_anew, is_news, is_of, is_on, leb-true, ltb-false, moment_at, moment_of, mul-le, nat_le, nat_lt}
-use Rattle.laws_time.proofs.Vocabulary.{news-is-told-so, news_in, not, notes_due, notes_of, of_frames, or_parts, refl, renews, same_Some, subst, suc, sym, true, true≢false, view_behind, view_of, zero, ℕ, ◌&&◌, ◌*◌, ◌++◌, ◌+◌, ◌<◌, ◌==◌, ◌||◌, ◌∙◌, ◌∷◌, ◌≡◌, ◌≤◌, ◌⊎◌}
+use Rattle.laws_time.proofs.Vocabulary.{Bool, Clock, Config, Event, Expiry, IsInRange, IsNoExpiry, Lengths, List, None, Observed, Service, Some, T200, TimedCard, Timer, [], ap, arith, at, brings, by_event, cond, counted, eq-eqb, eqb-true, expiry, false, filter, first_due, in_state, inl, inr, is_anew, is_news, is_of, is_on, is_waiting, leb-true, ltb-false, moment_at, moment_of, mul-le, nat_le}
+use Rattle.laws_time.proofs.Vocabulary.{nat_lt, news-is-told-so, news_in, not, notes_due, notes_of, of_frames, or_parts, refl, renews, same_Some, subst, suc, sym, true, true≢false, view_behind, view_of, zero, ℕ, ◌&&◌, ◌*◌, ◌++◌, ◌+◌, ◌<◌, ◌==◌, ◌||◌, ◌∙◌, ◌∷◌, ◌≡◌, ◌≤◌, ◌⊎◌}
 use Rattle.model_line.specs.Event as line_event
 use Rattle.model_card.specs.Machine.{answer}
 use Rattle.laws_time.proofs.TimedFrames.{with_event}
@@ -8,12 +8,12 @@ use Rattle.laws_time.proofs.Links.{stays-on, there}
 use Rattle.laws_time.proofs.Walk.{Stands, Holds, seen, step, q-is, stands-then}
 use Rattle.laws_time.proofs.Before.{Goes}
 use Rattle.laws_time.proofs.Phases.{one-more}
-use Rattle.laws_time.proofs.OfCircuit.Moments.{is_waiting, awaits-in, counts-on, not-anew}
-use Rattle.laws_time.proofs.ArrivalsErrors.{moved-zero, used-means, expiry-means, is_own_t200, Used}
+use Rattle.laws_time.proofs.OfCircuit.Moments.{awaits-in, counts-on, not-anew}
+use Rattle.laws_time.proofs.ArrivalsErrors.{moved-zero, used-means, expiry-means, Used}
+use Rattle.laws_time.proofs.Moments.{is_own_t200}
 
 pub un-not : (b : Bool) → not b ≡ false → b ≡ true
-un-not true e = refl
-un-not false e = absurd (cc e)
+un-not b h1z = grind arith
 
 pub no-expiry : (service : Service) (tei : ℕ) (what : line_event.Event) → IsNoExpiry what → is_own_t200 service tei what ≡ false
 no-expiry service tei what none = grind arith
@@ -109,8 +109,7 @@ module _ (c : Config) (lengths : Lengths) (late number : ℕ) (ranged : IsInRang
     on_now = is_on tei (view_behind c service tei number events what).teis
 
     pub views-own : q ≡ cond (not on_now) (in_state 1) (cond on_was (by_event c service tei what (moment_at c events number what).answer o) (in_state 4))
-    views-own =
-        ap (λ b. cond (not on_now) (in_state 1) (cond on_was (cond b (by_event c service tei what (moment_at c events number what).answer o) o) (in_state 4))) (eq-eqb number number refl)
+    views-own = grind (arith, eq-eqb)
 
     -- where it awaits an answer its TEI is on the line
     q-by : is_waiting o.state ≡ true → (q ≡ in_state 1) ⊎ (q ≡ by_event c service tei what (moment_at c events number what).answer o)

@@ -1,7 +1,7 @@
 -- N200 is used up no sooner than T200 has run out so often.
-use Rattle.laws_time.proofs.Vocabulary.{ArePrompt as TimedArePrompt, Bool, Clock, Config, Event, Expiry, IsInRange, Lengths, List, Moment, N200TakesItsTime, None, Note, Observed, Option, Service, Some, Step, T200, TimedCard, Timer, View, [], add-mul, after_all as timed_after_all, and-false, ap, append-nil, arith, at, at_moment, both-true, by_event, by_expiry, by_t200, cond, counted, due}
-use Rattle.laws_time.proofs.Vocabulary.{enquiries, eq-eqb, eqb-true, event_of, events_of, expiry, falls_due, false, filter, in_state, inl, inr, is_news, is_of, is_on, is_own, is_same, ltb-false, moment_at, moment_of, mul-le, news, news_in, not, notes_due, notes_of, of_frames, option_map, option_map_or, option_to_list, orders_in, own-is, refl, runs, same_service, services-equal, state}
-use Rattle.laws_time.proofs.Vocabulary.{step_happens as happens, subst, sym, time, tries, true, true≢false, view_behind, view_of, without_first, ℕ, ◌&&◌, ◌*◌, ◌++◌, ◌+◌, ◌<◌, ◌==◌, ◌||◌, ◌∙◌, ◌∷◌, ◌≡◌, ◌≤◌, ◌⊎◌}
+use Rattle.laws_time.proofs.Vocabulary.{ArePrompt as TimedArePrompt, Bool, Clock, Config, Event, Expiry, IsInRange, Lengths, List, Moment, N200TakesItsTime, None, Note, Observed, Option, Service, Some, Step, T200, TimedCard, Timer, View, [], add-mul, after_all as timed_after_all, and-false, ap, append-nil, arith, at, at_moment, by_event, by_expiry, by_t200, cond, counted, due, enquiries, eq-eqb}
+use Rattle.laws_time.proofs.Vocabulary.{eqb-true, event_of, events_of, expiry, falls_due, false, filter, in_state, inl, inr, is_news, is_of, is_on, is_same, is_waiting, ltb-false, moment_at, moment_of, mul-le, news, news_in, not, notes_due, notes_of, of_frames, option_map, option_map_or, option_to_list, orders_in, own-is, refl, runs, state, step_happens as happens, subst, sym, time, tries, true}
+use Rattle.laws_time.proofs.Vocabulary.{true≢false, view_behind, view_of, without_first, ℕ, ◌&&◌, ◌*◌, ◌++◌, ◌+◌, ◌<◌, ◌==◌, ◌||◌, ◌∙◌, ◌∷◌, ◌≡◌, ◌≤◌, ◌⊎◌}
 use Rattle.lapd_frame.specs.declared.timers.Timer.TheVariants as timers
 use Rattle.model_line.specs.Event as line_event
 use Rattle.model_card.specs.Card as cards
@@ -10,12 +10,12 @@ use Rattle.model_card.specs.Run as runs_of
 use Rattle.model_timed.specs.Frames.{fresh, after, after_all, ArePrompt}
 use Rattle.laws_time.proofs.TimedFrames.{with_event, expiry_of, with_expiry as timed_expiry, IsPrompt}
 use Rattle.laws_time.proofs.Links.{view-then, state-is, there}
-use Rattle.laws_time.proofs.Moments.{itself, now-stays, differs}
+use Rattle.laws_time.proofs.Moments.{at-lines, itself, now-stays, differs, each-timer, foreign-t200, is_own_t200}
 use Rattle.laws_time.proofs.Walk.{Stands, Holds, seen}
 use Rattle.laws_time.proofs.Falls.{in-time}
 use Rattle.laws_time.proofs.Before.{Goes, views-elsewhere, other-line, step-goes, dropped-holds, before-goes, begins, t200-leads, expired-anew}
-use Rattle.laws_time.proofs.OfCircuit.Moments.{is_waiting, awaits-in}
-use Rattle.laws_time.proofs.ArrivalsErrors.{used-append, led, idle-off, used-means, expiry-means, is_own_t200, Used}
+use Rattle.laws_time.proofs.OfCircuit.Moments.{awaits-in}
+use Rattle.laws_time.proofs.ArrivalsErrors.{used-append, led, idle-off, used-means, expiry-means, Used}
 use Rattle.laws_time.proofs.ArrivalsOneEvent.{no-expiry, due-now, Runs, first-time, once-more, out-of-7, fewer, is-q, views-own, anew-due, own-news, other-due, other-news}
 
 counted-once : (c : Config) → counted c ≤ 1
@@ -132,26 +132,22 @@ module _ (c : Config) (lengths : Lengths) (late number : ℕ) (ranged : IsInRang
 
   event-runs : (events : List Event) (u : TimedCard) (s : S events u) (e : Event) → ((e.line == number) ≡ false → H events u.clock (P (o_at events)))
       → ((e.line == number) ≡ true → Then events u (at number e.what)) → Then events u e
-  event-runs events u s e apart here = go (e.line == number) refl
+  event-runs events u s e apart here = at-lines number (Then events u) e (λ other. (elsewhere-due other (apart other), none-there e u.card other)) here
     where
-      go : (b : Bool) → (e.line == number) ≡ b → Then events u e
-      go true own_line = subst (λ n. Then events u (at n e.what)) (sym (eqb-true e.line number own_line)) (here own_line)
-      go false other = (elsewhere-due (apart other), none-there e u.card other)
+      elsewhere-due : (e.line == number) ≡ false → H events u.clock (P (o_at events)) → H (events ++ e ∷ []) (with_event e u).clock (P (o_at (events ++ e ∷ [])))
+      elsewhere-due other h = by (is_on tei (view_of c service tei number events).teis) refl
         where
-          elsewhere-due : H events u.clock (P (o_at events)) → H (events ++ e ∷ []) (with_event e u).clock (P (o_at (events ++ e ∷ [])))
-          elsewhere-due h = by (is_on tei (view_of c service tei number events).teis) refl
-            where
-              m : Moment
-              m = record { card = runs_of.after_all (cards.fresh c) events; event = e; answer = answer e (runs_of.after_all (cards.fresh c) events) }
+          m : Moment
+          m = record { card = runs_of.after_all (cards.fresh c) events; event = e; answer = answer e (runs_of.after_all (cards.fresh c) events) }
 
-              is : o_at (events ++ e ∷ []) ≡ cond (not (is_on tei (view_of c service tei number events).teis)) (in_state 1) (o_at events)
-              is = ap (λ (v : View). v.link) (view-then c service tei number events e) ∙ views-elsewhere c service tei number (view_of c service tei number events) m other
+          is : o_at (events ++ e ∷ []) ≡ cond (not (is_on tei (view_of c service tei number events).teis)) (in_state 1) (o_at events)
+          is = ap (λ (v : View). v.link) (view-then c service tei number events e) ∙ views-elsewhere c service tei number (view_of c service tei number events) m other
 
-              by : (b : Bool) → is_on tei (view_of c service tei number events).teis ≡ b → H (events ++ e ∷ []) (with_event e u).clock (P (o_at (events ++ e ∷ [])))
-              by true on =
-                  subst (λ (o : Observed). H (events ++ e ∷ []) (with_event e u).clock (P o)) (sym (is ∙ ap (λ b. cond (not b) (in_state 1) (o_at events)) on))
-                  (other-line c lengths late number ranged within service tei events u s (P (o_at events)) e T200 other h)
-              by false off = λ run. absurd (true≢false (sym run ∙ ap (runs T200) (is ∙ ap (λ b. cond (not b) (in_state 1) (o_at events)) off)))
+          by : (b : Bool) → is_on tei (view_of c service tei number events).teis ≡ b → H (events ++ e ∷ []) (with_event e u).clock (P (o_at (events ++ e ∷ [])))
+          by true on =
+              subst (λ (o : Observed). H (events ++ e ∷ []) (with_event e u).clock (P o)) (sym (is ∙ ap (λ b. cond (not b) (in_state 1) (o_at events)) on))
+              (other-line c lengths late number ranged within service tei events u s (P (o_at events)) e T200 other h)
+          by false off = λ run. absurd (true≢false (sym run ∙ ap (runs T200) (is ∙ ap (λ b. cond (not b) (in_state 1) (o_at events)) off)))
 
   -- A timer falls due.
   module _ (events : List Event) (t : TimedCard) (w : Runs c lengths late number ranged within service tei t0 slack floor least covers events t) (x : Expiry) (is : due t.clock ≡ Some x) (soon : t.clock.now < t0 + few * lengths.t200) where
@@ -179,17 +175,10 @@ module _ (c : Config) (lengths : Lengths) (late number : ℕ) (ranged : IsInRang
         (expired-due events t u w based x.moment refl d.0 d.1 soon, expired-news events t u w based x.moment refl d.0 d.1 soon)
 
     any : (x.line == number) ≡ true → (timer : Timer) → x.timer ≡ timer → Then events u (at number (expiry timer))
-    any own_line timers.T201 same = foreign timers.T201 same refl refl
-    any own_line timers.T202 same = foreign timers.T202 same refl refl
-    any own_line (timers.T203 of by) same = foreign (timers.T203 of by) same refl refl
-    any own_line (timers.T200 of by) same = go (is_own service tei of by) refl
-      where
-        go : (b : Bool) → is_own service tei of by ≡ b → Then events u (at number (expiry (timers.T200 of by)))
-        go false none = foreign (timers.T200 of by) same none (differs service tei (timers.T200 of by) (timers.T200 service tei) (inl refl) none)
-        go true ours =
-            let parts = both-true (same_service of service) (by == tei) ours in
-            let is_it : timers.T200 of by ≡ timers.T200 service tei = ap (λ s. timers.T200 s by) (services-equal of service parts.0) ∙ ap (timers.T200 service) (eqb-true by tei parts.1) in
-            subst (λ timer. Then events u (at number (expiry timer))) (sym is_it) (mine own_line (same ∙ is_it))
+    any own_line =
+        each-timer service tei (λ timer. x.timer ≡ timer → Then events u (at number (expiry timer)))
+        (λ timer none same. foreign timer same (foreign-t200 service tei timer none) (differs service tei timer (timers.T200 service tei) (inl refl) none))
+        (λ same. mine own_line same) (λ same. foreign (timers.T203 service tei) same refl refl)
 
     fell-runs : Then events u (expiry_of x)
     fell-runs =

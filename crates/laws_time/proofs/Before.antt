@@ -11,7 +11,7 @@ use Rattle.laws_trace.proofs.ObservedExpiries.{t200-enters, enquired}
 use Rattle.model_timed.specs.Frames.{fresh, after, after_all, ArePrompt}
 use Rattle.laws_time.proofs.TimedFrames.{with_event, expiry_of, with_expiry as timed_expiry, IsPrompt}
 use Rattle.laws_time.proofs.Links.{view-then, there, stays-on}
-use Rattle.laws_time.proofs.Moments.{now-stays, same, elsewhere}
+use Rattle.laws_time.proofs.Moments.{at-lines, now-stays, same, elsewhere}
 use Rattle.laws_time.proofs.Walk.{Stands, Holds, IsDue, seen, stands-then, step}
 use Rattle.laws_time.proofs.Falls.{in-time, dropped, first-all, on-lines}
 
@@ -24,13 +24,10 @@ pub views-elsewhere : (c : Config) (service : Service) (tei number : ℕ) (v : V
 views-elsewhere c service tei number v m other = grind arith
 
 runs-elsewhere : (timer : LinkTimer) (b : Bool) (o q : Observed) → q ≡ cond b (in_state 1) o → runs timer q ≡ true → runs timer o ≡ true
-runs-elsewhere timer true o q is run = absurd (true≢false (sym run ∙ ap (runs timer) is ∙ none-runs timer))
-runs-elsewhere timer false o q is run = ap (runs timer) (sym is) ∙ run
+runs-elsewhere timer b o q h1z h2z = grind (arith, none-runs)
 
 on-by : (tei : ℕ) (b there : Bool) (w : Managed) → is_on tei w ≡ true → is_on tei (cond b (cond there (nothing_due w) (nothing_due w)) w) ≡ true
-on-by tei true true w on = on
-on-by tei true false w on = on
-on-by tei false there w on = on
+on-by tei b there w h1z = grind arith
 
 module _ (c : Config) (number : ℕ) (ranged : IsInRange c) (within : number < c.lines) (service : Service) (tei : ℕ) where
   -- What the expiry of a timer that runs leads to.
@@ -109,12 +106,8 @@ module _ (c : Config) (lengths : Lengths) (late number : ℕ) (ranged : IsInRang
 
     pub event-now : (e : Event) (timer : LinkTimer) → ((e.line == number) ≡ false → HoldsNow timer events t.clock) → ((e.line == number) ≡ true → Kept e timer)
         → HoldsNow timer (events ++ e ∷ []) (with_event e t).clock
-    event-now e timer apart kept = go (e.line == number) refl
-      where
-        go : (b : Bool) → (e.line == number) ≡ b → HoldsNow timer (events ++ e ∷ []) (with_event e t).clock
-        go false other = other-now e timer other (apart other)
-        go true here =
-            subst (λ n. HoldsNow timer (events ++ at n e.what ∷ []) (with_event (at n e.what) t).clock) (sym (eqb-true e.line number here)) (own-line e.what timer (kept here))
+    event-now e timer apart kept =
+        at-lines number (λ e. HoldsNow timer (events ++ e ∷ []) (with_event e t).clock) e (λ other. other-now e timer other (apart other)) (λ here. own-line e.what timer (kept here))
 
   -- Whatever happens.
   pub happened : (events : List Event) (t : TimedCard) (e : Event) → Goes events t → e.line < c.lines → Goes (events ++ e ∷ []) (with_event e t)

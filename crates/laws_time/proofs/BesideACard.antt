@@ -1,8 +1,7 @@
 -- A clock that a caller keeps beside a card finds a place for each order, and runs as the card's own would.
-use Rattle.laws_time.proofs.Vocabulary.{AllByRecursion, ArePrompt, Bool, Card, Clock, Config, Event, Expiry, IfSome, IsInRange, IsOneEach, IsPrompt, Kind, Lengths, List, None, OctetCard, OctetEvent, Option, Order, Some, Stands, Start, Step, Stop, Timed, Timers, [], ap, arith, at, clock_of, cond, count_by-put_in_order, count_on, expiry_of, falls_due, false, finds_place, has_lines, is_held, is_of}
-use Rattle.laws_time.proofs.Vocabulary.{line_at, line_sound, lt-ltb, nat_le, not, now-stays, obey, obeyed, octet-stepped, octet_at, option_map_or, ranges_of, refl, starts, step_happens as happens, stepped, subst, sum_by-filter_both, sym, time, true, with_order, without, ℕ, ◌*◌, ◌+◌, ◌<◌, ◌==◌, ◌||◌, ◌∙◌, ◌∷◌, ◌≡◌, ◌≤◌}
+use Rattle.laws_time.proofs.Vocabulary.{AllByRecursion, ArePrompt, Bool, Card, Clock, Config, Event, Expiry, IfSome, IsInRange, IsOneEach, IsPrompt, Kind, Lengths, List, None, OctetCard, OctetEvent, Option, Order, Some, Stands, Start, Step, Stop, Timed, Timers, [], ap, arith, at, clock_of, cond, count_by-put_in_order, count_on, falls_due, false, finds_place, has_lines, is_held, is_of}
+use Rattle.laws_time.proofs.Vocabulary.{line_at, line_sound, nat_le, not, now-stays, obey, obeyed, octet-stepped, octet_at, option_map_or, ranges_of, refl, starts, step_happens as happens, stepped, subst, sum_by-filter_both, sym, time, true, with_order, without, ℕ, ◌*◌, ◌+◌, ◌<◌, ◌==◌, ◌||◌, ◌∙◌, ◌∷◌, ◌≡◌, ◌≤◌}
 use Rattle.lapd_clock.specs.Timer.{Timer}
-use Rattle.lapd_clock.specs.Timers as callers
 use Rattle.model_line.specs.Event as line_event
 use Rattle.model_card.specs.Card as cards
 use Rattle.model_card.specs.ports.Card as ports
@@ -27,22 +26,12 @@ module _ (lines places : ℕ) where
   count-without line timer es = omega (arith, sum_by-filter_both (λ e. not (is_of line timer e)) (λ e. not (not (is_of line timer e))) (λ _. refl) (λ e. cond (e.line == line) 1 0) es)
 
   count-start : (line : ℕ) (timer : Timer) (c : Clock) → count_on line (obey line c (Start timer)).running ≤ count_on line c.running + 1
-  count-start line timer c =
-      omega (arith, count-without line timer c.running, count_by-put_in_order callers.is_before (λ (x : Expiry). x.line == line) (expiry_of line timer c) (without line timer c.running), at-most (line == line))
-    where
-      at-most : (b : Bool) → cond b 1 0 ≤ 1
-      at-most b = grind arith
+  count-start line timer c = grind (arith, count-without, count_by-put_in_order)
 
   -- where there is a place it is carried out
   started : (line : ℕ) (timer : Timer) (c : Clock) → count_on line c.running < places → with_order (kept c) line (Start timer) c.now ≡ kept (obey line c (Start timer))
   unfolding with_order finds_place
-  started line timer c less =
-      ap (λ b. cond {A = Timers} (is_held line timer c.running || b) (kept (obey line c (Start timer))) (kept c)) (lt-ltb (count_on line c.running) places less)
-      ∙ or-true (is_held line timer c.running)
-    where
-      or-true : (b : Bool) → cond {A = Timers} (b || true) (kept (obey line c (Start timer))) (kept c) ≡ kept (obey line c (Start timer))
-      or-true true = refl
-      or-true false = refl
+  started line timer c less = grind arith
 
   -- so orders are that start no more than there are places left
   Served : ℕ → List Order → Clock → Type 0
@@ -119,9 +108,6 @@ record Good (c : Config) (card : Card) (clock : Clock) : Type 0 where
   config : card.config ≡ c
 
 module _ (c : Config) (ranged : IsInRange c) where
-  abbrev places : ℕ
-  places = 4 * c.terminals + 1
-
   -- the timers of a clock that have run, or all but one
   record AreLeft (es : List Expiry) (clock : Clock) : Type 0 where
     one : IsOneEach es
@@ -144,7 +130,7 @@ module _ (c : Config) (ranged : IsInRange c) where
       or-true b = grind arith
 
   -- at most one timer a link and one run, and two are started
-  fits : (card : Card) (clock : Clock) → Good c card clock → (es : List Expiry) → AreLeft es clock → (e : Event) → e.line < card.config.lines → count_on e.line es + starts (frames.orders_at e card) ≤ places
+  fits : (card : Card) (clock : Clock) → Good c card clock → (es : List Expiry) → AreLeft es clock → (e : Event) → e.line < card.config.lines → count_on e.line es + starts (frames.orders_at e card) ≤ (4 * c.terminals + 1)
   fits card clock good es left e here =
       let sound = line_sound card e.line (has_lines card good.stands.sound) here in
       omega (
@@ -157,25 +143,19 @@ module _ (c : Config) (ranged : IsInRange c) where
 
   -- what an event of octets orders is ordered by what it means
   octets-fit : (m : OctetCard) (clock : Clock) → Good c m.card clock → (es : List Expiry) → AreLeft es clock → (e : OctetEvent) → e.line < m.card.config.lines → (o : Option Event) → OctetsMean e m o
-      → count_on e.line es + starts (octets.orders_at e m) ≤ places
+      → count_on e.line es + starts (octets.orders_at e m) ≤ (4 * c.terminals + 1)
   unfolding starts
-  octets-fit m clock good es left e here None means = subst (λ os. count_on e.line es + starts os ≤ places) (sym means.0) (omega (arith, fits m.card clock good es left (at e.line line_event.next) here))
+  octets-fit m clock good es left e here None means = subst (λ os. count_on e.line es + starts os ≤ (4 * c.terminals + 1)) (sym means.0) (omega (arith, fits m.card clock good es left (at e.line line_event.next) here))
   octets-fit m clock good es left e here (Some f) means =
-      subst (λ os. count_on e.line es + starts os ≤ places) (sym means.1)
-      (subst (λ n. count_on n es + starts (frames.orders_at f m.card) ≤ places) means.0 (fits m.card clock good es left f (subst (λ n. n < m.card.config.lines) (sym means.0) here)))
+      subst (λ os. count_on e.line es + starts os ≤ (4 * c.terminals + 1)) (sym means.1)
+      (subst (λ n. count_on n es + starts (frames.orders_at f m.card) ≤ (4 * c.terminals + 1)) means.0 (fits m.card clock good es left f (subst (λ n. n < m.card.config.lines) (sym means.0) here)))
 
   -- the configuration stays
   config-stays : (s : Step Event) (t : frames.TimedCard) → (timed.after frames.frames s t).card.config ≡ t.card.config
-  config-stays (happens e) t = refl
-  config-stays (time moment) t = refl
-  config-stays falls_due t = (elim (own.due t.clock) as (λ o. (option_map_or (timed.with_expiry frames.frames t) o t).card.config ≡ t.card.config) [
-    | None ↦ refl
-    | Some x ↦ refl
-  ])
+  config-stays s t = grind arith
 
   config-meant : (e : OctetEvent) (m : OctetCard) (o : Option Event) → OctetsMean e m o → (ports.after e m).card.config ≡ m.card.config
-  config-meant e m None means = ap (λ (card : Card). card.config) means.1
-  config-meant e m (Some f) means = ap (λ (card : Card). card.config) means.2
+  config-meant e m o h1z = grind arith
 
   octets-config : (s : Step OctetEvent) (t : octets.TimedOctetCard) → (timed.after octets.octets s t).card.card.config ≡ t.card.card.config
   octets-config (happens e) t = config-meant e t.card (ports.meant e t.card) (octets-mean e t.card)

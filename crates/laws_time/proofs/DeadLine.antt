@@ -1,8 +1,9 @@
 -- A dead line is told.
 use Rattle.laws_time.proofs.Ended.{F, A, start-200, start-203, start-wait, ended}
-use Rattle.laws_time.proofs.Vocabulary.{ADeadLineIsTold, ArePrompt as TimedArePrompt, AreStill, AwaitingEstablishment, AwaitingRelease, Bool, Clock, Config, Established, Event, Expiry, IsInRange, IsNoExpiry, IsStillAt, Lengths, LinkTimer, List, Moment, None, Note, Observed, Option, Service, Some, State, Step, T200, T203, TeiAssigned, TimedCard, Timer, TimerRecovery, View, []}
-use Rattle.laws_time.proofs.Vocabulary.{after_all as timed_after_all, and-false, ap, append-nil, append_assoc, arith, at, at_moment, awaits, both-true, cond, due, eqb-true, event_of, events_of, expiry, falls_due, false, filter, inl, inr, is_news, is_of, is_on, is_own, is_same, is_some, is_timer_of, line_at, link_in, nat_le, nat_lt, news, news_in, notes_of, of_frames, option_map, option_map_or}
-use Rattle.laws_time.proofs.Vocabulary.{option_to_list, place_in, refl, runs, same_Some, same_service, services-equal, state, state_number, step_happens as happens, subst, sym, time, timed_events_of, told_in, true, true≢false, view_behind, view_of, without_first, ℕ, ⊎_elim, ◌&&◌, ◌++◌, ◌+◌, ◌<◌, ◌==◌, ◌∙◌, ◌∷◌, ◌≡◌, ◌≤◌, ◌⊎◌}
+use Rattle.laws_time.proofs.Vocabulary.{ADeadLineIsTold, ArePrompt as TimedArePrompt, AreStill, Bool, Clock, Config, Event, Expiry, IsInRange, IsNoExpiry, IsStillAt, Lengths, LinkTimer, List, None, Note, Observed, Option, Service, Some, Step, T200, T203, TimedCard, Timer, View, [], after_all as timed_after_all, and-false, ap, append-nil, append_assoc, arith, at, at_moment, cond}
+use Rattle.laws_time.proofs.Vocabulary.{Moment}
+use Rattle.laws_time.proofs.Vocabulary.{due, eqb-true, event_of, events_of, expiry, falls_due, false, filter, inl, inr, is_news, is_of, is_on, is_same, is_some, is_timer_of, nat_le, news, news_in, notes_of, of_frames, option_map, option_map_or, option_to_list, refl, runs, state, step_happens as happens, subst, sym, time, timed_events_of}
+use Rattle.laws_time.proofs.Vocabulary.{told_in, true, true≢false, view_behind, view_of, without_first, ℕ, ⊎_elim, ◌&&◌, ◌++◌, ◌+◌, ◌<◌, ◌==◌, ◌∙◌, ◌∷◌, ◌≡◌, ◌≤◌, ◌⊎◌}
 use Rattle.lapd_frame.specs.declared.timers.Timer.TheVariants as timers
 use Rattle.model_line.specs.Event as line_event
 use Rattle.model_card.specs.Card as cards
@@ -11,7 +12,7 @@ use Rattle.model_card.specs.Run as runs_of
 use Rattle.model_timed.specs.Frames.{fresh, after, after_all, ArePrompt}
 use Rattle.laws_time.proofs.TimedFrames.{with_event, expiry_of, with_expiry as timed_expiry, IsPrompt}
 use Rattle.laws_time.proofs.Links.{view-then, on-where, state-is, elsewhere}
-use Rattle.laws_time.proofs.Moments.{differs}
+use Rattle.laws_time.proofs.Moments.{at-lines, differs, each-timer}
 use Rattle.laws_time.proofs.Effects.{is_its_expiry}
 use Rattle.laws_time.proofs.Walk.{Stands, Holds, seen}
 use Rattle.laws_time.proofs.Falls.{in-time}
@@ -79,14 +80,10 @@ module _ (c : Config) (lengths : Lengths) (late number : ℕ) (ranged : IsInRang
       → ((e.line == number) ≡ true → G (events ++ at number e.what ∷ []) (with_event (at number e.what) u) → OnAfter events (at number e.what)
       → W (events ++ at number e.what ∷ []) (with_event (at number e.what) u) (told ++ news_in of_frames service tei number (Some (at number e.what)) u.card))
       → W (events ++ e ∷ []) (with_event e u) (told ++ news_in of_frames service tei number (Some e) u.card)
-  event-waits events t u told w s e g on apart here = go (e.line == number) refl
-    where
-      go : (b : Bool) → (e.line == number) ≡ b → W (events ++ e ∷ []) (with_event e u) (told ++ news_in of_frames service tei number (Some e) u.card)
-      go false other = let h = apart other in other-waits events t u told w s e other g on h.0 h.1
-      go true own_line =
-          let is = eqb-true e.line number own_line in
-          subst (λ n. W (events ++ at n e.what ∷ []) (with_event (at n e.what) u) (told ++ news_in of_frames service tei number (Some (at n e.what)) u.card)) (sym is)
-          (here own_line (subst (λ n. G (events ++ at n e.what ∷ []) (with_event (at n e.what) u)) is g) (subst (λ n. OnAfter events (at n e.what)) is on))
+  event-waits events t u told w s e g on apart here =
+      at-lines number
+      (λ e. G (events ++ e ∷ []) (with_event e u) → OnAfter events e → W (events ++ e ∷ []) (with_event e u) (told ++ news_in of_frames service tei number (Some e) u.card)) e
+      (λ other g on. let h = apart other in other-waits events t u told w s e other g on h.0 h.1) here g on
 
   happens-waits : (events : List Event) (t : TimedCard) (told : List Note) → W events t told → (e : Event) → IsNoExpiry e.what → G (events ++ e ∷ []) (with_event e t) → OnAfter events e
       → IsStillAt of_frames c service tei number (happens e) t → W (events ++ e ∷ []) (with_event e t) (told ++ news_in of_frames service tei number (Some e) t.card)
@@ -148,24 +145,7 @@ module _ (c : Config) (lengths : Lengths) (late number : ℕ) (ranged : IsInRang
             (λ run. absurd (true≢false (sym run ∙ none)))
 
     any : (timer : Timer) → x.timer ≡ timer → Own timer
-    any timers.T201 same = foreign timers.T201 same refl
-    any timers.T202 same = foreign timers.T202 same refl
-    any (timers.T200 of by) same = go (is_own service tei of by) refl
-      where
-        go : (b : Bool) → is_own service tei of by ≡ b → Own (timers.T200 of by)
-        go false none = foreign (timers.T200 of by) same none
-        go true mine =
-            let parts = both-true (same_service of service) (by == tei) mine in
-            let is_it : timers.T200 of by ≡ timers.T200 service tei = ap (λ s. timers.T200 s by) (services-equal of service parts.0) ∙ ap (timers.T200 service) (eqb-true by tei parts.1) in
-            subst Own (sym is_it) (own-200 (same ∙ is_it))
-    any (timers.T203 of by) same = go (is_own service tei of by) refl
-      where
-        go : (b : Bool) → is_own service tei of by ≡ b → Own (timers.T203 of by)
-        go false none = foreign (timers.T203 of by) same none
-        go true mine =
-            let parts = both-true (same_service of service) (by == tei) mine in
-            let is_it : timers.T203 of by ≡ timers.T203 service tei = ap (λ s. timers.T203 s by) (services-equal of service parts.0) ∙ ap (timers.T203 service) (eqb-true by tei parts.1) in
-            subst Own (sym is_it) (own-203 (same ∙ is_it))
+    any = each-timer service tei (λ timer. x.timer ≡ timer → Own timer) (λ timer none same. foreign timer same none) own-200 own-203
 
     fell-waits : G (events ++ expiry_of x ∷ []) (with_event (expiry_of x) u) → OnAfter events (expiry_of x)
         → W (events ++ expiry_of x ∷ []) (with_event (expiry_of x) u) (told ++ news_in of_frames service tei number (Some (expiry_of x)) u.card)
@@ -215,31 +195,14 @@ module _ (c : Config) (lengths : Lengths) (late number : ℕ) (ranged : IsInRang
       (steps-wait (events ++ option_to_list (event_of d t)) (after d t) (told ++ news_in of_frames service tei number (event_of d t) t.card) steps
       (step-waits events t told d w prompt.0 still.0 still.1) prompt.1 still.2))
 
-state-low : (s : State) → state_number s ≤ 8
-state-low TeiAssigned = omega arith
-state-low AwaitingEstablishment = omega arith
-state-low AwaitingRelease = omega arith
-state-low Established = omega arith
-state-low TimerRecovery = omega arith
-
-some-low : (b : Bool) (place : Option ℕ) (f : ℕ → State) (n : ℕ) → cond b (option_map (λ p. state_number (f p)) place) None ≡ Some n → n ≤ 8
-some-low true (Some p) f n is = subst (λ n. n ≤ 8) (same_Some (state_number (f p)) n is) (state-low (f p))
-some-low true None f n is = cc is
-some-low false place f n is = cc is
-
 told-low : (service : Service) (tei number : ℕ) (card : cards.Card) (n : ℕ) → state number service tei card ≡ Some n → n ≤ 8
-told-low service tei number card n is =
-    let l = line_at number card in some-low (nat_lt number card.config.lines) (place_in l tei) (λ p. (link_in l service p).state) n is
+told-low service tei number card n is = grind arith
 
 waits-8 : (o : Observed) → (o.state ≡ 5) ⊎ ((o.state ≡ 6) ⊎ (o.state ≡ 8)) → runs T200 o ≡ true
 waits-8 o is = grind arith
 
 one-of-7 : (o : Observed) → o.state ≡ 7 → (runs T200 o ≡ true) ⊎ (runs T203 o ≡ true)
-one-of-7 o is = go (awaits o) refl
-  where
-    go : (b : Bool) → awaits o ≡ b → (runs T200 o ≡ true) ⊎ (runs T203 o ≡ true)
-    go true e = inl e
-    go false e = inr (idle-7 o is e)
+one-of-7 o is = grind (arith, idle-7)
 
 module _ (c : Config) (t200 late first all now m : ℕ) (late_is : now ≤ m + late) where
   within-200 : (s e : ℕ) → Due200 c t200 late first all s e m → now ≤ limit c t200 late first all s

@@ -1,8 +1,7 @@
 -- Which timer falls due first: the law.
-use Rattle.laws_time.proofs.Vocabulary.{All, All-from_recursion, AllByRecursion, Bool, Expiry, IfSome, IsInOrder, Kind, List, None, Option, Ordering, Some, Step, T201, T202, Timed, [], after_all, ap, arith, before_itself, cond, drop, due, expiry_at, falls_due, false, first_due, in-order, is_before, is_lt, kind_rank, nat_cmp, nat_le, nat_lt, nat_tests, option_map_or, ordering_then, refl}
-use Rattle.laws_time.proofs.Vocabulary.{service_rank, step_happens as happens, stopped, sym, tei_rank, time, timer_cmp, true, with_expiry, without_first, ℕ, ◌&&◌, ◌==◌, ◌||◌, ◌∙◌, ◌∷◌, ◌≡◌}
+use Rattle.laws_time.proofs.Vocabulary.{All, All-from_recursion, AllByRecursion, Bool, Expiry, IfSome, IsInOrder, Kind, List, None, Option, Ordering, Some, Step, Timed, [], after_all, arith, before_itself, cond, drop, due, expiry_at, falls_due, false, first_due, in-order, is_before, is_lt, nat_cmp, nat_le, nat_lt, nat_tests, option_map_or, ordering_then}
+use Rattle.laws_time.proofs.Vocabulary.{step_happens as happens, stopped, sym, time, timer_cmp, true, with_expiry, without_first, ℕ, ◌&&◌, ◌==◌, ◌||◌, ◌∙◌, ◌∷◌, ◌≡◌}
 use Rattle.lapd_clock.proofs.Vocabulary.{Timer}
-use Rattle.lapd_clock.specs.Timer.{T200, T203, Call, Packet}
 use Rattle.model_timed.specs.Timed.{after}
 use Rattle.laws_time.specs.DueFirst.{TheFirstFallsDue, by_timer, in_turn, is_lower}
 
@@ -10,21 +9,8 @@ use Rattle.laws_time.specs.DueFirst.{TheFirstFallsDue, by_timer, in_turn, is_low
 then-lower : (a b : ℕ) (o : Ordering) (rest : Bool) → is_lt o ≡ rest → is_lt (ordering_then (nat_cmp a b) o) ≡ (nat_lt a b || (a == b && rest))
 then-lower a b o rest same = grind (arith, nat_tests)
 
-last-lower : (a b : ℕ) → is_lt (nat_cmp a b) ≡ (nat_lt a b || (a == b && false))
-last-lower a b = grind (arith, nat_tests)
-
-ranks : (t : Timer) → by_timer t ≡ kind_rank t ∷ tei_rank t ∷ service_rank t ∷ []
-ranks (T200 Call tei) = refl
-ranks (T200 Packet tei) = refl
-ranks (T203 Call tei) = refl
-ranks (T203 Packet tei) = refl
-ranks T201 = refl
-ranks T202 = refl
-
 timer-lower : (s t : Timer) → is_lt (timer_cmp s t) ≡ is_lower (by_timer s) (by_timer t)
-timer-lower s t =
-    then-lower (kind_rank s) (kind_rank t) _ _ (then-lower (tei_rank s) (tei_rank t) _ _ (last-lower (service_rank s) (service_rank t)))
-    ∙ ap (λ l. is_lower l (kind_rank t ∷ tei_rank t ∷ service_rank t ∷ [])) (sym (ranks s)) ∙ ap (is_lower (by_timer s)) (sym (ranks t))
+timer-lower s t = grind arith
 
 in-turn-lower : (x y : Expiry) → is_before x y ≡ is_lower (in_turn x) (in_turn y)
 in-turn-lower x y = then-lower x.moment y.moment _ _ (then-lower x.line y.line (timer_cmp x.timer y.timer) _ (timer-lower x.timer y.timer))

@@ -1,6 +1,6 @@
 -- What an event at the line makes of a link of which nothing is heard, and what is told.
-use Rattle.laws_time.proofs.Vocabulary.{Answer, Bool, Config, Error, LinkTimer, List, Note, Observed, Option, Parts, Request, Service, [], anew, ap, arith, awaits, brings, by_event, by_frame, by_frame_begun, by_heard, cond, due_notes as due, eq-eqb, expiry, false, fold, frame_in, is_anew, is_heard, is_sabme, is_stirred, is_timer_of, is_too_long, is_xid, le-ltb, map, moves_link, nat_le, next}
-use Rattle.laws_time.proofs.Vocabulary.{not, notes_due, option_map_or, refl, releases, request, subst, sym, true, wrong, ℕ, ◌&&◌, ◌++◌, ◌==◌, ◌||◌, ◌∙◌, ◌∷◌, ◌≡◌, ◌≤◌}
+use Rattle.laws_time.proofs.Vocabulary.{Answer, Bool, Config, LinkTimer, List, Observed, Option, Parts, Request, Service, [], anew, arith, awaits, brings, by_event, by_frame, by_frame_begun, by_heard, cond, due_notes as due, eq-eqb, expiry, false, fold, frame_in, is_anew, is_heard, is_sabme, is_stirred, is_timer_of, is_too_long, is_xid, le-ltb, moves_link, nat_le, next}
+use Rattle.laws_time.proofs.Vocabulary.{not, notes_due, option_map_or, refl, releases, request, subst, sym, wrong, ℕ, ◌&&◌, ◌||◌, ◌∙◌, ◌∷◌, ◌≡◌, ◌≤◌}
 use Rattle.model_bits.specs.Stream as stream
 use Rattle.model_line.specs.Event.{Event, hears}
 use Rattle.laws_trace.specs.Observer.{by_request}
@@ -48,10 +48,7 @@ module _ (c : Config) (service : Service) (tei : ℕ) (a : Answer) (o : Observed
   calm next quiet mine = sent-like c service tei o (frame_in a)
 
   pub same-awaits : (what : Event) → is_stirred c service tei what ≡ false → is_its_expiry service tei what ≡ false → (what ≡ next → ⊥) → awaits (by_event c service tei what a o) ≡ awaits o
-  same-awaits (hears e) quiet mine not_next = ap awaits (heard-stays e quiet)
-  same-awaits (request r) quiet mine not_next = grind arith
-  same-awaits (expiry timer) quiet mine not_next = grind arith
-  same-awaits next quiet mine not_next = absurd (not_next refl)
+  same-awaits what h1z h2z h3z = grind (arith, heard-stays)
 
   -- Nothing starts its timers anew.
   pub none-renews : (timer : LinkTimer) (what : Event) → is_stirred c service tei what ≡ false → is_its_expiry service tei what ≡ false → (q : Observed) → IsLike o q → is_anew c service tei timer o q what ≡ false
@@ -62,24 +59,10 @@ module _ (c : Config) (service : Service) (tei : ℕ) (a : Answer) (o : Observed
   due-none q xid sabme released x s r up same = grind arith
 
   wrong-none : (what : Event) → is_stirred c service tei what ≡ false → is_its_expiry service tei what ≡ false → (to : ℕ) → to ≡ o.state → wrong c service tei what o.state to ≡ []
-  wrong-none (hears e) quiet mine to same = grind arith
-  wrong-none (expiry timer) quiet mine to same = grind arith
-  wrong-none (request r) quiet mine to same = refl
-  wrong-none next quiet mine to same = refl
+  wrong-none what h1z h2z to h3z = grind arith
 
   brings-none : (what : Event) → is_stirred c service tei what ≡ false → (brings is_xid c service tei what ≡ false) × (brings is_sabme c service tei what ≡ false) × (releases service tei what a ≡ false)
-  brings-none (hears e) quiet = grind arith
-  brings-none (expiry timer) quiet = (refl, refl, refl)
-  brings-none (request r) quiet = grind arith
-  brings-none next quiet = (refl, refl, refl)
+  brings-none what h1z = grind arith
 
   pub no-news : (what : Event) → is_stirred c service tei what ≡ false → is_its_expiry service tei what ≡ false → 4 ≤ o.state → (q : Observed) → IsLike o q → notes_due c service tei o q what a ≡ []
-  no-news what quiet mine up q like =
-      let none = brings-none what quiet in
-      let later = ap (λ es. map (Error service tei) es ++ due service tei (brings is_xid c service tei what) (brings is_sabme c service tei what) (releases service tei what a) o q.state) (wrong-none what quiet mine q.state like.state)
-      ∙ due-none q (brings is_xid c service tei what) (brings is_sabme c service tei what) (releases service tei what a) none.0 none.1 none.2 up like.state in
-      either (o.state == 1) (map (Error service tei) (wrong c service tei what o.state q.state) ++ due service tei (brings is_xid c service tei what) (brings is_sabme c service tei what) (releases service tei what a) o q.state) later
-    where
-      either : (b : Bool) (xs : List Note) → xs ≡ [] → cond b [] xs ≡ []
-      either true xs none = refl
-      either false xs none = none
+  no-news what quiet mine up q like = grind (arith, brings-none, wrong-none, due-none)

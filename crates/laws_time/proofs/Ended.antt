@@ -75,14 +75,7 @@ module _ (c : Config) (lengths : Lengths) (late now : ℕ) where
     F-below = omega arith
 
     at-least : 2 ≤ length (told_in from service tei)
-    at-least = go (four from (omega (arith, low)) high)
-      where
-        go : (from ≡ 4) ⊎ ((from ≡ 5) ⊎ ((from ≡ 6) ⊎ ((from ≡ 7) ⊎ (from ≡ 8)))) → 2 ≤ length (told_in from service tei)
-        go (inl is) = absurd (omega (arith, low, is))
-        go (inr (inl is)) = subst (λ n. 2 ≤ length (told_in n service tei)) (sym is) (omega arith)
-        go (inr (inr (inl is))) = subst (λ n. 2 ≤ length (told_in n service tei)) (sym is) (omega arith)
-        go (inr (inr (inr (inl is)))) = subst (λ n. 2 ≤ length (told_in n service tei)) (sym is) (omega arith)
-        go (inr (inr (inr (inr is)))) = subst (λ n. 2 ≤ length (told_in n service tei)) (sym is) (omega arith)
+    at-least = grind arith
 
     -- In states 5 and 6, two are owed: either all of it, as at first, where both times are the same, or one was told.
     two-owed : length (owed service tei to) ≡ 2 → then_is ≤ A from → F from < then_is → 1 ≤ length told

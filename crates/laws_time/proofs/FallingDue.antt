@@ -1,8 +1,7 @@
 -- Falling due ends: the law.
-use Rattle.laws_time.proofs.Vocabulary.{All-from_recursion, AllByRecursion, Bool, Clock, Expiry, IfSome, IsInOrder, Kind, Lengths, List, None, Option, Order, Some, Start, Stop, T201, T202, Timed, [], after_all, ap, arith, cond, count_by, count_by-put_in_order, drop, due, duration, expiry_at, expiry_of, falls_due, false, first_due, is_before, is_of, length, lengths-stay, nat_le, nat_tests}
+use Rattle.laws_time.proofs.Vocabulary.{All-from_recursion, AllByRecursion, Bool, Clock, Expiry, IfSome, IsInOrder, Kind, Lengths, List, None, Option, Order, Some, Start, Stop, Timed, [], after_all, ap, arith, cond, count_by, count_by-put_in_order, drop, due, duration, expiry_at, expiry_of, falls_due, false, first_due, is_before, is_of, length, lengths-stay, nat_le, nat_tests}
 use Rattle.laws_time.proofs.Vocabulary.{no_earlier, none-some, not, now-stays, obey, obeyed, option_map, option_map_or, option_to_list, refl, replicate, stopped, subst, suc, sum_by-cons, sum_by-filter_both, sym, timed_events_of as events_of, true, with_expiry, without, without_first, zero, ℕ, ◌++◌, ◌+◌, ◌<◌, ◌∙◌, ◌∷◌, ◌≡◌, ◌≤◌}
 use Rattle.lapd_clock.proofs.Vocabulary.{Timer}
-use Rattle.lapd_clock.specs.Timer.{T200, T203}
 use Rattle.model_timed.specs.Timed.{after}
 use Rattle.model_timed.specs.TimersAreTrue.{length_of}
 use Rattle.laws_time.proofs.DueFirst.{all-steps}
@@ -16,10 +15,7 @@ counted now es = count_by (come_by now) es
 
 -- Orders make no more timers due.
 same-length : (lengths : Lengths) (timer : Timer) → duration lengths timer ≡ length_of lengths timer
-same-length lengths (T200 service tei) = refl
-same-length lengths (T203 service tei) = refl
-same-length lengths T201 = refl
-same-length lengths T202 = refl
+same-length lengths timer = grind arith
 
 fewer-without : (now line : ℕ) (timer : Timer) (es : List Expiry) → counted now (without line timer es) ≤ counted now es
 fewer-without now line timer es =
@@ -85,13 +81,7 @@ module _ {Card Event : Type 0} (k : Kind Card Event) where
   still-runs t x runs = subst EachRuns (sym (lengths-stay (k.line (expiry_at k x)) (without_first t.clock) (k.orders (expiry_at k x) t.card))) runs
 
   expired-fewer : (t : Timed Card) (x : Expiry) → EachRuns t.clock.lengths → due t.clock ≡ Some x → count_due (with_expiry k t x).clock < count_due t.clock
-  expired-fewer t x runs is =
-      omega (
-        arith,
-        ap (λ now. counted now (with_expiry k t x).clock.running) (expired-now t x),
-        by-orders (k.line (expiry_at k x)) (without_first t.clock) (k.orders (expiry_at k x) t.card) runs,
-        first-counts t.clock.running t.clock.now x is,
-      )
+  expired-fewer t x runs is = grind (arith, expired-now, by-orders, first-counts)
 
   fewer : (t : Timed Card) → EachRuns t.clock.lengths → IfSome (due t.clock) (λ x. count_due (after k falls_due t).clock < count_due t.clock)
   fewer t runs =
@@ -128,8 +118,7 @@ module _ {Card Event : Type 0} (k : Kind Card Event) where
 
   -- The moment stays where it was.
   fallen-now : (t : Timed Card) (d : Option Expiry) → (option_map_or (with_expiry k t) d t).clock.now ≡ t.clock.now
-  fallen-now t None = refl
-  fallen-now t (Some x) = expired-now t x
+  fallen-now t d = grind (arith, expired-now)
 
   same-now : (n : ℕ) (t : Timed Card) → (after_all k (replicate n falls_due) t).clock.now ≡ t.clock.now
   unfolding after_all
@@ -138,10 +127,7 @@ module _ {Card Event : Type 0} (k : Kind Card Event) where
 
   later : (u : Timed Card) (n : ℕ) → IsInOrder is_before u.clock.running → EachRuns u.clock.lengths → count_due u.clock ≤ n
       → AllByRecursion (λ (x : Expiry). u.clock.now < x.moment) (after_all k (replicate n falls_due) u).clock.running
-  later u n sorted runs few =
-      let v = after_all k (replicate n falls_due) u in
-      subst (λ now. AllByRecursion (λ (x : Expiry). now < x.moment) v.clock.running) (same-now n u)
-      (none-come v.clock.running v.clock.now (all-steps k (replicate n falls_due) u sorted) (none-due n u runs few))
+  later u n sorted runs few = grind (arith, same-now, none-come, all-steps, none-due)
 
 pub falling-due-ends : {Card Event : Type 0} (k : Kind Card Event) → FallingDueEnds k
 falling-due-ends k n t runs = record {

@@ -3,11 +3,7 @@ use Rattle.laws_time.proofs.Vocabulary.{All, All-cons, All-head, All-nil, All-ta
 use Rattle.model_timed.specs.Clock as clocks
 
 in-time-first : (late now : ℕ) (e : Expiry) (rest : Option ℕ) (m : ℕ) (b : Bool) → now ≤ e.moment + late → ((is : rest ≡ Some m) → now ≤ m + late) → cond b (Some e.moment) rest ≡ Some m → now ≤ m + late
-in-time-first late now e rest m true here more is = subst (λ m. now ≤ m + late) (the-same is) here
-  where
-    the-same : Some e.moment ≡ Some m → e.moment ≡ m
-    the-same is = grind arith
-in-time-first late now e rest m false here more is = more is
+in-time-first late now e rest m b h1z h2z h3z = grind arith
 
 pub in-time : (late now line : ℕ) (its : Timer) (es : List Expiry) (m : ℕ) → All (IsInTime late now) es → moment_of line its es ≡ Some m → now ≤ m + late
 in-time late now line its [] m all is = cc is
@@ -15,7 +11,7 @@ in-time late now line its (e ∷ es) m all is =
     in-time-first late now e (moment_of line its es) m (is_of line its e) (All-head (IsInTime late now) e es all)
     (in-time late now line its es m (All-tail (IsInTime late now) e es all)) is
 
-first-is : (e x : Expiry) (b : Bool) → cond b (Some e) None ≡ Some x → e ≡ x
+pub first-is : (e x : Expiry) (b : Bool) → cond b (Some e) None ≡ Some x → e ≡ x
 first-is e x b is = grind arith
 
 pub dropped : (line : ℕ) (its : Timer) (x : Expiry) (es : List Expiry) (now : ℕ) → first_due es now ≡ Some x → is_of line its x ≡ false → moment_of line its (drop 1 es) ≡ moment_of line its es

@@ -6,7 +6,7 @@ use Rattle.std.proofs.lemmas.Map.Steps.{length-le_from_distinct_below}
 use Rattle.lapd_clock.specs.Timer.{Timer, T200, T203}
 use Rattle.model_link.specs.declared.timers.LinkTimer.TheVariants as link
 use Rattle.model_line.specs.Line.{Line}
-use Rattle.model_line.proofs.Numbers.{number_within, place_at-number, service_at-number}
+use Rattle.model_line.proofs.Numbers.{place_at-number, service_at-number}
 use Rattle.model_line.proofs.Obeyed.{timer_of}
 use Rattle.model_line.proofs.Placed.{place-few}
 
@@ -23,8 +23,7 @@ module _ (c : Config) (l : Line) (s : IsSound c l) where
 
   -- a timer that runs has one of so many numbers
   link-within : (k : LinkTimer) (service : Service) (tei : ℕ) (o : Option ℕ) → place_in l tei ≡ o → runs_at service k o l ≡ true → number_at service o < 2 * c.terminals
-  link-within k service tei None at is = absurd (true≢false (sym is))
-  link-within k service tei (Some place) at is = number_within place c.terminals service (place-few c l tei place s at)
+  link-within k service tei o h1z h2z = grind (arith, place-few)
 
   within : (timer : Timer) → is_running timer l ≡ true → number timer < 2 * c.terminals + 1
   within timer is = grind (arith, link-within)
@@ -47,8 +46,7 @@ module _ (c : Config) (l : Line) (s : IsSound c l) where
 
   -- no line runs both T201 and T202
   not-both : (b : Bool) → IsOfSide b l.management l.own → is_some l.management.check ≡ true → is_some l.own.procedure ≡ true → ⊥
-  not-both true side check procedure = true≢false (sym check ∙ ap is_some side.1.check)
-  not-both false side check procedure = true≢false (sym procedure ∙ ap is_some side.0)
+  not-both b h1z h2z h3z = grind arith
 
   -- so one number is one timer
   same-timer : (a b : Timer) → is_running a l ≡ true → is_running b l ≡ true → number a ≡ number b → a ≡ b

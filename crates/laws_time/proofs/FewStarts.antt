@@ -68,8 +68,7 @@ module _ (c : Config) where
       (λ unit is few. none_starts) (managed (without_units l) (down-sound c l s) tei_down tt)
 
   by-refusal : (l : Line) (o : Option Refusal) (aim : Aim) → starts (of_aim c (unless_refused o aim) l).told.orders ≤ 2 → starts (orders_in (unless_refused_told o (of_aim c (unless_refused o aim) l))) ≤ 2
-  by-refusal l None aim h = h
-  by-refusal l (Some why) aim h = none_starts
+  by-refusal l o aim h1z = grind arith
 
   -- any event of a line
   line_starts : (l : Line) → IsSound c l → (e : Event) → starts (orders_in (answer c e l)) ≤ 2

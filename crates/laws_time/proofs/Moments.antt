@@ -1,8 +1,11 @@
 -- When a timer of a link falls due behind orders.
-use Rattle.laws_time.proofs.Vocabulary.{Bool, Clock, List, None, Option, Order, Ordering, Service, Some, Start, Stop, Timers, [], ap, arith, cond, count_on, duration, eq-eqb, expiry_of, false, false≢true, filter, finds_place, fold, inl, inr, is_eq, is_order_of, is_same, is_timer_of, moment_of, obey, obeyed, own-is, refl, same_timer, subst, sym, timer_cmp, timer_total, true, with_order, without}
-use Rattle.laws_time.proofs.Vocabulary.{ℕ, ◌&&◌, ◌+◌, ◌==◌, ◌∙◌, ◌∷◌, ◌≡◌, ◌⊎◌}
+use Rattle.laws_time.proofs.Vocabulary.{Event, Bool, Clock, List, None, Option, Order, Ordering, Service, Some, Start, Stop, Timers, [], ap, arith, both-true, cond, count_on, duration, eq-eqb, eqb-true, expiry_of, false, false≢true, filter, finds_place, fold, is_eq, is_order_of, is_own, is_same, is_timer_of, moment_of, obey, obeyed, own-is, refl, same_service, same_timer, services-equal}
+use Rattle.laws_time.proofs.Vocabulary.{subst, at}
+use Rattle.laws_time.proofs.Vocabulary.{sym, timer_cmp, timer_total, true, with_order, without, ℕ, ◌&&◌, ◌+◌, ◌==◌, ◌∙◌, ◌∷◌, ◌≡◌, ◌⊎◌}
 use Rattle.lapd_clock.specs.Timer.{Timer, T200, T203}
 use Rattle.lapd_clock.specs.Timers.{with_expiry}
+use Rattle.lapd_frame.specs.declared.timers.Timer.TheVariants as timers
+use Rattle.model_line.specs.Event as line_event
 use Rattle.lapd_clock.proofs.Moments.{start_moves_one, stop_moves_one}
 use Rattle.std.proofs.lemmas.Cmp.{eq_by_cmp_equiv}
 use Rattle.std.specs.declared.cmp.Ordering.TheVariants.{Equal}
@@ -72,8 +75,7 @@ module _ (line : ℕ) (its : Timer) where
       go false e = ended-others line timer c line its (ap (λ b. line == line && b) e ∙ ap (λ b. b && false) here)
 
   kept : (c : Clock) (o : Order) → ((obey line c o).now ≡ c.now) × ((obey line c o).lengths ≡ c.lengths)
-  kept c (Start timer) = (refl, refl)
-  kept c (Stop timer) = (refl, refl)
+  kept c o = grind arith
 
   pub all : (c : Clock) (orders : List Order) → moment_of line its (obeyed line orders c).running ≡ by_orders its (c.now + duration c.lengths its) orders (moment_of line its c.running)
   all c [] = refl
@@ -101,33 +103,41 @@ lengths-stay line c (Stop timer ∷ orders) = lengths-stay line (obey line c (St
 
 -- Only the orders of the link count.
 pub own : (service : Service) (tei : ℕ) (its other : Timer) → IsOf service tei its → is_same other its ≡ true → is_timer_of service tei other ≡ true
-own service tei its other (inl is) e = ap (is_timer_of service tei) (same other its e ∙ is) ∙ own-is service tei
-own service tei its other (inr is) e = ap (is_timer_of service tei) (same other its e ∙ is) ∙ own-is service tei
+own service tei its other h1z h2z = grind (arith, own-is)
 
 -- A timer that is not of the link differs from its own.
 pub differs : (service : Service) (tei : ℕ) (timer its : Timer) → IsOf service tei its → is_timer_of service tei timer ≡ false → is_same timer its ≡ false
-differs service tei timer its of none = go (is_same timer its) refl
+differs service tei timer its of none = grind arith
+
+-- Each timer of the link is one of two.
+pub own-same : (service : Service) (tei : ℕ) (of : Service) (by : ℕ) → is_own service tei of by ≡ true → (of ≡ service) × (by ≡ tei)
+own-same service tei of by own = let both = both-true (same_service of service) (by == tei) own in (services-equal of service both.0, eqb-true by tei both.1)
+
+pub own-timer : (service : Service) (tei : ℕ) (P : Timer → Type 0) → P (T200 service tei) → P (T203 service tei) → (timer : Timer) → is_timer_of service tei timer ≡ true → P timer
+own-timer service tei P first second (timers.T200 of by) own = let e = own-same service tei of by own in subst P (λ i. T200 (sym e.0 i) (sym e.1 i)) first
+own-timer service tei P first second (timers.T203 of by) own = let e = own-same service tei of by own in subst P (λ i. T203 (sym e.0 i) (sym e.1 i)) second
+own-timer service tei P first second other own = absurd (false≢true own)
+
+pub each-timer : (service : Service) (tei : ℕ) (P : Timer → Type 0) → ((timer : Timer) → is_timer_of service tei timer ≡ false → P timer) → P (T200 service tei) → P (T203 service tei) → (timer : Timer) → P timer
+each-timer service tei P other first second timer = go (is_timer_of service tei timer) refl
   where
-    go : (b : Bool) → is_same timer its ≡ b → b ≡ false
-    go true e = absurd (false≢true (sym none ∙ own service tei its timer of e))
-    go false e = refl
+    go : (b : Bool) → is_timer_of service tei timer ≡ b → P timer
+    go false none = other timer none
+    go true own = own-timer service tei P first second timer own
+
+abbrev pub is_own_t200 : Service → ℕ → line_event.Event → Bool
+is_own_t200 service tei (line_event.expiry (timers.T200 of by)) = is_own service tei of by
+is_own_t200 service tei other = false
+
+pub foreign-t200 : (service : Service) (tei : ℕ) (timer : Timer) → is_timer_of service tei timer ≡ false → is_own_t200 service tei (line_event.expiry timer) ≡ false
+foreign-t200 service tei timer h1z = grind arith
 
 by-one : (service : Service) (tei : ℕ) (its : Timer) (then : ℕ) (o : Order) (m : Option ℕ) → IsOf service tei its → is_order_of service tei o ≡ false → by_order its then m o ≡ m
-by-one service tei its then (Start timer) m of none = go (is_same timer its) refl
-  where
-    go : (s : Bool) → is_same timer its ≡ s → cond s (Some then) m ≡ m
-    go true f = absurd (false≢true (sym none ∙ own service tei its timer of f))
-    go false f = refl
-by-one service tei its then (Stop timer) m of none = go (is_same timer its) refl
-  where
-    go : (s : Bool) → is_same timer its ≡ s → cond s None m ≡ m
-    go true f = absurd (false≢true (sym none ∙ own service tei its timer of f))
-    go false f = refl
+by-one service tei its then o m h1z h2z = grind arith
 
 by-first : (service : Service) (tei : ℕ) (its : Timer) (then : ℕ) (o : Order) (rest : List Order) (m : Option ℕ) → IsOf service tei its → (b : Bool) → is_order_of service tei o ≡ b
     → by_orders its then rest (by_order its then m o) ≡ by_orders its then (cond b (o ∷ rest) rest) m
-by-first service tei its then o rest m of true e = refl
-by-first service tei its then o rest m of false e = ap (by_orders its then rest) (by-one service tei its then o m of e)
+by-first service tei its then o rest m h1z b h2z = grind (arith, by-one)
 
 pub of-link : (service : Service) (tei : ℕ) (its : Timer) (then : ℕ) (orders : List Order) (m : Option ℕ) → IsOf service tei its
     → by_orders its then orders m ≡ by_orders its then (filter (is_order_of service tei) orders) m
@@ -135,3 +145,11 @@ of-link service tei its then [] m of = refl
 of-link service tei its then (o ∷ orders) m of =
     of-link service tei its then orders (by_order its then m o) of
     ∙ by-first service tei its then o (filter (is_order_of service tei) orders) m of (is_order_of service tei o) refl
+
+-- What holds of events of a line and of the others holds of any.
+pub at-lines : (number : ℕ) (P : Event → Type 0) (e : Event) → ((e.line == number) ≡ false → P e) → ((e.line == number) ≡ true → P (at number e.what)) → P e
+at-lines number P e apart here = go (e.line == number) refl
+  where
+    go : (b : Bool) → (e.line == number) ≡ b → P e
+    go false other = apart other
+    go true own = subst (λ n. P (at n e.what)) (sym (eqb-true e.line number own)) (here own)

@@ -34,14 +34,7 @@ frame_steps (falls_due ∷ steps) t = falls_due ∷ frame_steps steps (next_octe
 
 -- What is said to an event has the orders and the notes of what is said to what it means.
 says-both : (what : port.Event) (a : port.Answer) (s : Option Answer) → SaysSo what a s → (orders_of a ≡ option_map_or orders_in s []) × (notes_in a ≡ option_map_or notes_of s [])
-says-both what a (Some (line.told t)) h = (ap orders_of h, ap notes_in h)
-says-both what a (Some (line.refused why)) h = (ap orders_of h, ap notes_in h)
-says-both what a (Some (line.gave None)) h = (ap orders_of h.2, ap notes_in h.2)
-says-both what a (Some (line.gave (Some next))) h = (ap orders_of h.2, ap notes_in h.2)
-says-both (port.octet value) a None h = (ap orders_of h, ap notes_in h)
-says-both (port.expiry timer) a None h = absurd h
-says-both (port.request r) a None h = absurd h
-says-both port.pull a None h = (ap orders_of h.1, ap notes_in h.1)
+says-both what a s h1z = grind arith
 
 -- An event, which means this.
 module _ (e : Event) (m : OctetCard) where
@@ -56,8 +49,7 @@ module _ (e : Event) (m : OctetCard) where
   said_to what = machine.answer (at e.line what) m.card
 
   said-so : {A : Type 0} (f : Answer → List A) (o : Option line.Event) → option_map_or f (option_map (answer_to m.card) (option_map (at e.line) o)) [] ≡ option_map_or (λ what. f (said_to what)) o []
-  said-so f None = refl
-  said-so f (Some what) = refl
+  said-so f o = grind arith
 
   pub orders-are : (o : Option line.Event) → meant_at e m ≡ o → orders_of (ports_answer e m) ≡ option_map_or (λ what. orders_in (said_to what)) o []
   orders-are o is = (says-both e.what (ports_answer e m) (meaning (meant_at e m)) says).0 ∙ ap (λ o. option_map_or orders_in (meaning o) []) is ∙ said-so orders_in o
@@ -67,11 +59,7 @@ module _ (e : Event) (m : OctetCard) where
 
   card-is : (o : Option line.Event) → meant_at e m ≡ o → (ports_after e m).card ≡ option_map_or (λ what. machine.after (at e.line what) m.card) o m.card
   unfolding ports_after meant
-  card-is o is = ap (λ o. option_map_or (λ f. machine.after f m.card) (option_map (at e.line) o) m.card) is ∙ by o
-    where
-      by : (o : Option line.Event) → option_map_or (λ f. machine.after f m.card) (option_map (at e.line) o) m.card ≡ option_map_or (λ what. machine.after (at e.line what) m.card) o m.card
-      by None = refl
-      by (Some what) = refl
+  card-is o is = grind arith
 
 abbrev timed : Card → Clock → TimedCard
 timed card clock = record { card = card; clock = clock }
@@ -157,8 +145,7 @@ module _ (c : Config) (service : Service) (tei number : ℕ) where
   own b notes = cond b (filter (is_news service tei) notes) []
 
   none-own : (b : Bool) → own b [] ≡ []
-  none-own true = refl
-  none-own false = refl
+  none-own b = grind arith
 
   own-news : (e : Event) (m : OctetCard) (o : Option line.Event) → meant_at e m ≡ o
       → news_in of_octets service tei number (Some e) m ≡ news_in of_frames service tei number (option_map (at e.line) o) m.card

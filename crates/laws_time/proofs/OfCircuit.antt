@@ -77,7 +77,7 @@ pub mod AckedTally
 pub mod AckedBeats
 pub mod AckedTimers
 pub mod AckedEvents
-pub mod AckedOurs
+pub mod Ours
 pub mod AckedEnds
 pub mod AckedSides
 pub mod AckedRings
@@ -99,7 +99,7 @@ pub mod CaughtParts
 pub mod CaughtSide
 pub mod CaughtNear
 pub mod CaughtUp
-pub mod CaughtMirror
+pub mod Turned
 pub mod CaughtMet
 pub mod CaughtAll
 pub mod AgainText

@@ -1,25 +1,17 @@
 -- T200 runs on where a frame goes.
-use Rattle.laws_time.proofs.Vocabulary.{AreAtLines, Card, Config, ControlFrame, Event, IsBy, IsInRange, IsSound, Link, List, None, Option, Service, Some, T200, Terms, [], after_all-append, ap, arith, at, by_line, callers-run, config-now, frames_after_all as after_all, has_lines, has_tei, inl, inr, is_on, is_some, line_at, line_sound, link_after as after, link_of, link_runs as runs, next, offer}
-use Rattle.laws_time.proofs.Vocabulary.{offer_among, on-line-now, option_map, place_in, refl, sound-now, state_of, subst, sym, terms, timely-now, timers-run-so, true, true≢false, view_of, ℕ, ◌++◌, ◌<◌, ◌∙◌, ◌∷◌, ◌≡◌, ◌⊎◌}
+use Rattle.laws_time.proofs.Vocabulary.{AreAtLines, Card, Config, Event, IsBy, IsInRange, IsSound, List, None, Option, Service, Some, T200, [], after_all-append, ap, arith, at, by_line, callers-run, config-now, frames_after_all as after_all, has_lines, has_tei, inl, inr, is_on, is_some, line_at, line_sound, link_after as after, link_of, link_runs as runs, next}
+use Rattle.laws_time.proofs.Vocabulary.{on-line-now, option_map, place_in, refl, sound-now, state_of, subst, sym, terms, timely-now, timers-run-so, true, true≢false, view_of, ℕ, ◌++◌, ◌<◌, ◌∙◌, ◌∷◌, ◌≡◌, ◌⊎◌}
 use Rattle.model_line.specs.Event as line_event
 use Rattle.model_line.specs.Line.{Line}
 use Rattle.model_line.specs.Machine as lines
 use Rattle.model_bits.specs.Stream as stream
 use Rattle.model_link.specs.Events as link
-use Rattle.model_link.specs.Steps.{begun}
 use Rattle.model_card.specs.Card.{fresh}
 use Rattle.model_card.specs.Machine as machine
 use Rattle.laws_trace.specs.TimersAreTimely as timely
 use Rattle.laws_trace.proofs.LinkLed.{on-line}
 use Rattle.laws_trace.proofs.OneLink.{event-goes, Goes}
 use Rattle.laws_trace.proofs.TimersOfEvent.{needed-is}
-
-among : (t : Terms) (ws : List ControlFrame) (l : Link) → runs T200 l.running ≡ true → runs T200 (offer_among t ws (begun l)).link.running ≡ true
-among t [] l run = grind arith
-among t (f ∷ fs) l run = run
-
-offered : (t : Terms) (l : Link) → runs T200 l.running ≡ true → runs T200 (after t offer l).running ≡ true
-offered t l run = among t l.waiting l run
 
 has : (service : Service) (tei : ℕ) (l : Line) → is_some (state_of service tei l) ≡ true → has_tei tei l ≡ true
 has service tei l some = go (place_in l tei) refl
@@ -29,19 +21,13 @@ has service tei l some = go (place_in l tei) refl
     go (Some place) e = on-line l tei place e
 
 no-next : {A B : Type 0} (o p : stream.Event) → ((next ≡ line_event.hears o) × A) ⊎ ((next ≡ line_event.hears p) × B) → ⊥
-no-next o p (inl h) = cc h.0
-no-next o p (inr h) = cc h.0
+no-next o p h1z = grind arith
 
 -- One call at a line.
 module _ (c : Config) (l : Line) (service : Service) (tei : ℕ) where
   one : (event : link.Event) → IsBy c next (lines.answer c next l) service tei event → link_of service tei (lines.after c next l) ≡ after (terms c service tei) event (link_of service tei l)
       → runs T200 (link_of service tei l).running ≡ true → runs T200 (link_of service tei (lines.after c next l)).running ≡ true
-  one link.offer by is run = subst (λ x. runs T200 x.running ≡ true) (sym is) (offered (terms c service tei) (link_of service tei l) run)
-  one (link.expired timer) by is run = cc by
-  one (link.requested asked full) by is run = cc by.0
-  one (link.received (link.frame parts)) by is run = cc by.by
-  one (link.received other) by is run = absurd (no-next (stream.frame by.octets) (stream.overlong by.octets) by.by)
-  one link.cleared by is run = absurd by
+  one event h1z h2z h3z = grind (arith, no-next)
 
   by-line : IsSound c l → has_tei tei l ≡ true → has_tei tei (lines.after c next l) ≡ true
       → runs T200 (link_of service tei l).running ≡ true → runs T200 (link_of service tei (lines.after c next l)).running ≡ true

@@ -243,33 +243,30 @@ module _ (c : Config) (lengths : Lengths) (late number : ℕ) (ranged : IsInRang
       (on_then : is_on tei (view_behind c service tei number events what).teis ≡ true)
       (g : Goes c lengths late number ranged within service tei (events ++ at number what ∷ []) (with_event (at number what) u))
       (still : is_stirred c service tei what ≡ false) (other : is_its_expiry service tei what ≡ false) where
-    abbrev o_is : Observed
-    o_is = o_of events
-
     abbrev r_is : Observed
     r_is = (view_behind c service tei number events what).link
 
     abbrev a_is : Answer
     a_is = (moment_of c events number what).answer
 
-    by-event : r_is ≡ by_event c service tei what a_is o_is
+    by-event : r_is ≡ by_event c service tei what a_is (o_of events)
     by-event = stays-on c events number ranged s.all within service tei what w.on on_then
 
-    alike : IsLike o_is r_is
-    alike = subst (IsLike o_is) (sym by-event) (calm c service tei a_is o_is what still other)
+    alike : IsLike (o_of events) r_is
+    alike = subst (IsLike (o_of events)) (sym by-event) (calm c service tei a_is (o_of events) what still other)
 
-    keeps-by : (x : line_event.Event) → x ≡ what → awaits o_is ≡ true → awaits r_is ≡ true
+    keeps-by : (x : line_event.Event) → x ≡ what → awaits (o_of events) ≡ true → awaits r_is ≡ true
     keeps-by next is waits =
         ap awaits (sym (is-q events u s what))
         ∙ subst (λ x. awaits (o_of (events ++ at number x ∷ [])) ≡ true) is
         (sends-on c events number ranged s.all (subst (λ x. AreAtLines (cards.fresh c) (events ++ at number x ∷ [])) (sym is) g.stands.all) within service tei w.on
         (subst (λ x. is_on tei (view_of c service tei number (events ++ at number x ∷ [])).teis ≡ true) (sym is) (on-after whole_told events t u told w s what on_then g)) waits)
-    keeps-by (hears e) is waits = ap awaits by-event ∙ same-awaits c service tei a_is o_is what still other (λ n. cc (is ∙ n)) ∙ waits
-    keeps-by (request e) is waits = ap awaits by-event ∙ same-awaits c service tei a_is o_is what still other (λ n. cc (is ∙ n)) ∙ waits
-    keeps-by (expiry e) is waits = ap awaits by-event ∙ same-awaits c service tei a_is o_is what still other (λ n. cc (is ∙ n)) ∙ waits
+    keeps-by (hears e) is waits = ap awaits by-event ∙ same-awaits c service tei a_is (o_of events) what still other (λ n. cc (is ∙ n)) ∙ waits
+    keeps-by (request e) is waits = ap awaits by-event ∙ same-awaits c service tei a_is (o_of events) what still other (λ n. cc (is ∙ n)) ∙ waits
+    keeps-by (expiry e) is waits = ap awaits by-event ∙ same-awaits c service tei a_is (o_of events) what still other (λ n. cc (is ∙ n)) ∙ waits
 
-    pub waits-still : Has T200 events u.clock (D200 o_is) → Has T203 events u.clock D203
+    pub waits-still : Has T200 events u.clock (D200 (o_of events)) → Has T203 events u.clock D203
         → Waits whole_told (events ++ at number what ∷ []) (with_event (at number what) u) (told ++ news_in of_frames service tei number (Some (at number what)) u.card)
     waits-still h200 h203 =
-        waits-calm whole_told events t u told w s what on_then g alike (λ timer. none-renews c service tei a_is o_is timer what still other r_is alike)
-        (λ at_7 waits. keeps-by what refl waits) (no-news c service tei a_is o_is what still other w.phase.least r_is alike) h200 h203
+        waits-calm whole_told events t u told w s what on_then g alike (λ timer. none-renews c service tei a_is (o_of events) timer what still other r_is alike)
+        (λ at_7 waits. keeps-by what refl waits) (no-news c service tei a_is (o_of events) what still other w.phase.least r_is alike) h200 h203

@@ -1,9 +1,9 @@
 -- The words of std, of the crates below and of this crate's statements with which its proofs speak.
-pub use Rattle.std.proofs.Common.{All, Bool, Err, IsTrue, List, None, Ok, Option, Some, [], ap, append-nil, append_assoc, arith, cond, count_by, drop, eq-eqb, eqb, eqb-true, false, filter, get_or, if◌then◌else◌, inl, inr, is_some, length, length-append, map, nat_le, nat_lt, not, option_map, refl, replicate, slice_get, subst, suc, sym, take, true, zero, ℕ, ⊎_elim, ◌%◌, ◌&&◌, ◌*◌, ◌++◌, ◌+◌, ◌-◌}
+pub use Rattle.std.proofs.Common.{All, Bool, IsTrue, List, None, Ok, Option, Some, [], ap, append-nil, append_assoc, arith, cond, count_by, drop, eq-eqb, eqb, eqb-true, false, filter, get_or, if◌then◌else◌, inl, inr, is_some, length, length-append, map, nat_le, nat_lt, not, option_map, refl, replicate, slice_get, subst, suc, sym, take, true, zero, ℕ, ⊎_elim, ◌%◌, ◌&&◌, ◌*◌, ◌++◌, ◌+◌, ◌-◌}
 pub use Rattle.std.proofs.Common.{◌/◌, ◌<◌, ◌==◌, ◌||◌, ◌∙◌, ◌∷◌, ◌≡◌, ◌≢◌, ◌≤◌, ◌⊎◌}
 pub use Rattle.std.proofs.Math.Nat.{add-mul, div-le_of_le-mul, div-le_self, div-lt_iff_lt-mul, lt-div-mul-add, mul-div-le, suc-mul}
 pub use Rattle.std.proofs.Math.Seq.{take-length}
-pub use Rattle.std.proofs.lemmas.Bool.{and_parts, cases_eq, cases_lt, false≢true, le-ltb, leb-true, lt-ltb, ltb-false, ltb-true, ne_eqb, or_parts, true≢false}
+pub use Rattle.std.proofs.lemmas.Bool.{and_parts, cases_eq, cases_lt, false≢true, le-ltb, leb-true, ltb-false, ltb-true, or_parts, true≢false}
 pub use Rattle.std.proofs.lemmas.Bool.Decides.{nat_tests}
 pub use Rattle.std.proofs.lemmas.Grind.{flat_map-append}
 pub use Rattle.std.proofs.lemmas.List.{append_cancel_left, append_cancel_right, length-drop, length-map, length-replicate, length-take-le, map-append, nil_from_length, same_from_push, set-get_or, take-append-drop, take_all}
@@ -15,9 +15,9 @@ pub use Rattle.std.proofs.lemmas.Nat.{le-div, mul-le}
 pub use Rattle.std.proofs.lemmas.Option.{none-some, same_Some}
 pub use Rattle.std.specs.List.{AllByRecursion, list_any}
 unfoldable pub use Rattle.std.specs.List.{IsDistinct}
-pub use Rattle.std.specs.Option.{option_and_then, option_map_or, unwrap_or}
+pub use Rattle.std.specs.Option.{option_map_or, unwrap_or}
 pub use Rattle.std.specs.Ordering.{is_eq, is_lt, nat_cmp, ordering_then}
-pub use Rattle.std.specs.Prelude.{IfSome, flat_map, fold, min, nat_eq, option_to_list, set, sum_by}
+pub use Rattle.std.specs.Prelude.{IfSome, flat_map, fold, min, option_to_list, sum_by}
 pub use Rattle.std.specs.declared.cmp.Ordering.{Ordering}
 pub use Rattle.lapd_clock.proofs.First.{before_itself, no_earlier}
 pub use Rattle.lapd_clock.proofs.Ordered.{All-filter, All-put_in_order, IsInOrder-filter, IsInOrder-put_in_order, count_by-put_in_order}
@@ -25,18 +25,18 @@ pub use Rattle.lapd_clock.proofs.TimerOrder.{before_order, same_timer, timer_tot
 pub use Rattle.lapd_clock.specs.InOrder.{IsInOrder, put_in_order}
 pub use Rattle.lapd_clock.specs.Moments.{moment_of}
 pub use Rattle.lapd_clock.specs.Sound.{IsOneEach}
-pub use Rattle.lapd_clock.specs.Timer.{AreInRange, Lengths, Order, Start, Stop, T201, T202, duration, is_same, kind_rank, service_rank, tei_rank, timer_cmp}
+pub use Rattle.lapd_clock.specs.Timer.{AreInRange, Lengths, Order, Start, Stop, T201, T202, duration, is_same, timer_cmp}
 pub use Rattle.lapd_clock.specs.Timers.{Expiry, Timers, count_on, is_before, is_held, is_of, without}
 unfoldable pub use Rattle.lapd_clock.specs.Timers.{finds_place, with_order}
 pub use Rattle.lapd_frame.specs.Grammar.{Parts}
 unfoldable pub use Rattle.lapd_frame.specs.Reading.{control_of, header_of, supervisory_of, unnumbered_of}
-pub use Rattle.lapd_frame.specs.Senders.{long_reading, spelling}
+pub use Rattle.lapd_frame.specs.Senders.{spelling}
 unfoldable pub use Rattle.lapd_frame.specs.Senders.{exchanged, reading}
 pub use Rattle.lapd_frame.specs.Services.{same_service, sapi_of}
 pub use Rattle.lapd_frame.specs.declared.controls.Control.{Control}
-pub use Rattle.lapd_frame.specs.declared.controls.Control.TheVariants.{Disc, Dm, Frmr, Information, ReceiveNotReady, ReceiveReady, Reject, Sabme, Ua, Ui, Xid}
+pub use Rattle.lapd_frame.specs.declared.controls.Control.TheVariants.{Disc, Dm, Information, ReceiveNotReady, ReceiveReady, Sabme, Ua}
 pub use Rattle.lapd_frame.specs.declared.notes.ErrorCode.{ErrorCode}
-pub use Rattle.lapd_frame.specs.declared.notes.ErrorCode.TheVariants.{A, F, H, I, J, K, O}
+pub use Rattle.lapd_frame.specs.declared.notes.ErrorCode.TheVariants.{F, H, I}
 pub use Rattle.lapd_frame.specs.declared.notes.Note.{Note}
 pub use Rattle.lapd_frame.specs.declared.notes.Note.TheVariants.{Error, ReleaseConfirm}
 pub use Rattle.lapd_frame.specs.declared.refusals.Refusal.{Refusal}
@@ -58,15 +58,14 @@ pub use Rattle.laws_line.specs.Heard.{notes_of}
 pub use Rattle.laws_line.specs.Steady.{IsBy, timer_of}
 pub use Rattle.laws_link.proofs.Follows.{event-follows}
 pub use Rattle.laws_link.proofs.OfTwo.AnyOrder.{Direction, Informs, Lane, Notes, Steady, is-steady, lane-low, lane-order}
-pub use Rattle.laws_link.specs.States.{as_heard, by_received, by_request, is_faulty, is_overlong, moves, state_after}
+pub use Rattle.laws_link.specs.States.{as_heard, by_request, is_faulty, is_overlong, moves, state_after}
 pub use Rattle.laws_link.specs.Waiting.{answers, answers_to, as_command, as_response, command_in, commands, is_time, put, receipt_as, room, to_disc, to_sabme}
 pub use Rattle.laws_link.specs.two.Needed.{HasItsTimer, needed_in}
 pub use Rattle.laws_link.specs.two.Timely.{HasNo}
 pub use Rattle.laws_order.proofs.OfCircuit.AsFrames.{as_endpoint, asked-as, heard-as, if_meant, pulled-as}
 pub use Rattle.laws_order.proofs.OfCircuit.AtPort.{next_of_card, pull-between, pull-given, pull-put, pull-received}
 pub use Rattle.laws_order.proofs.OfCircuit.Comes.{AreFew, all-few, block, few-fewer, sender}
-pub use Rattle.laws_order.proofs.OfCircuit.Coming.{IsBehind, all-out}
-pub use Rattle.laws_order.proofs.OfCircuit.OneWay.{Carries, OneHeard, framed, heard-beyond, none-heard, one-given, one-heard, one-put, out}
+pub use Rattle.laws_order.proofs.OfCircuit.OneWay.{Carries, OneHeard, framed, heard-beyond, none-heard, one-given, one-heard, one-put}
 pub use Rattle.laws_order.proofs.OfCircuit.Onward.{acts-append, many-add, many-append, many-mute, many-stay, meant-append}
 unfoldable pub use Rattle.laws_order.proofs.OfCircuit.Onward.{many}
 pub use Rattle.laws_order.proofs.OfCircuit.Projected.{Done, Fits, Follows, act_meant, all-done, as_wire, asked-way, doing_meant, heard-way, hearing_means, one-act, one-done, other-way, port-after}
@@ -104,13 +103,13 @@ pub use Rattle.laws_trace.proofs.LinkLed.{own-is}
 pub use Rattle.laws_trace.proofs.ObservedLaws.{holds, known-now, links-move-so, news-is-told-so, numbers-now, on-line-now, timers-run-so}
 pub use Rattle.laws_trace.proofs.TimersAreTimely.{callers-run, config-now, sound-now, timely-now}
 pub use Rattle.laws_trace.specs.FramesAreRead.{GivesOctets, contents_given}
-pub use Rattle.laws_trace.specs.LinkFrames.{begins_ui, fault_of, faulty_long, frame_of, is_annex_b, is_too_long, its_frame, malformed}
+pub use Rattle.laws_trace.specs.LinkFrames.{fault_of, frame_of, is_too_long, its_frame, malformed}
 pub use Rattle.laws_trace.specs.Managing.{Managed, is_on, nothing_due}
-pub use Rattle.laws_trace.specs.News.{brings, due as due_notes, given_up, is_news, is_sabme, is_xid, minds, notes_due, releases, wrong, wrong_frame, wrong_number}
-pub use Rattle.laws_trace.specs.Observer.{Observed, View, anew, awaits, by_event, by_expiry, by_frame, by_frame_begun, by_heard, by_t200, counted, enquires, enters, in_state, may_repeat, moment_of as moment_at, view_behind, view_of, views, while_down, while_up}
+pub use Rattle.laws_trace.specs.News.{brings, due as due_notes, given_up, is_news, is_sabme, is_xid, notes_due, releases, wrong, wrong_frame, wrong_number}
+pub use Rattle.laws_trace.specs.Observer.{Observed, View, anew, awaits, by_event, by_expiry, by_frame, by_frame_begun, by_heard, by_t200, counted, enquires, in_state, may_repeat, moment_of as moment_at, view_behind, view_of, views}
 pub use Rattle.laws_trace.specs.TimersAreTimely.{is_anew, is_order_of, is_timer_of, order_due, orders_due, renews, runs}
 pub use Rattle.laws_trace.specs.Trace.{IsFront, frame_in, is_own, is_up}
-pub use Rattle.laws_wire.proofs.Answered.{asks-way, gives-taken, takes-way}
+pub use Rattle.laws_wire.proofs.Answered.{asks-way, takes-way}
 pub use Rattle.laws_wire.proofs.Awaited.{closed, link-is, long-there, may-there, open-here, runs-is, state-is}
 pub use Rattle.laws_wire.proofs.BothPhases.{Goes, IsCalled}
 pub use Rattle.laws_wire.proofs.Calling.{awaiting, caller, end, sabme, sends-ua, takes-sabme, ua, with_ua_first, with_ua_waiting}
@@ -152,7 +151,7 @@ unfoldable pub use Rattle.model_bits.specs.Bits.{low_bits}
 pub use Rattle.model_bits.specs.Framer.{item_octets, runs_low}
 pub use Rattle.model_bits.specs.RoundTrip.{AreHeardWhole, IsHeardWhole, frames_of}
 pub use Rattle.model_bits.specs.Sent.{Item, frame, frame_text, idle, item_text, line_text}
-pub use Rattle.model_bits.specs.Stream.{Event as StreamEvent, closed_by_flag, ends_flag, frame as stream_frame, heard_at, heard_in, heard_until, room_for, since_flag}
+pub use Rattle.model_bits.specs.Stream.{Event as StreamEvent, ends_flag, frame as stream_frame, heard_at, heard_in, heard_until, room_for, since_flag}
 pub use Rattle.model_bits.specs.StuffingLaws.{AreOctets}
 pub use Rattle.model_card.proofs.OfPorts.AsOctets.{all_exact, cut_sent, exact, frames_sent, heard_whole, same_text, sent}
 pub use Rattle.model_card.proofs.OfPorts.Codec.{meant_at_lines, refined_card}
@@ -182,12 +181,12 @@ pub use Rattle.model_line.proofs.Obeyed.{both-true, services-equal}
 pub use Rattle.model_line.proofs.Ranges.{ranges_of, terms_in_range}
 pub use Rattle.model_line.specs.Came.{came}
 unfoldable pub use Rattle.model_line.specs.Config.{sapi_fault}
-pub use Rattle.model_line.specs.Effect.{Aim, at_link, at_management, at_terminal, of_aim, of_change, of_link, of_network, of_terminal, told_of_link, told_of_terminal, without_units}
+pub use Rattle.model_line.specs.Effect.{Aim, at_link, at_management, at_terminal, of_aim, of_change, of_link, of_network, of_terminal, told_of_link, without_units}
 pub use Rattle.model_line.specs.Event.{Answer, LineTold, NextFrame, expiry, gave, given_in, next, refused, request}
 pub use Rattle.model_line.specs.Expiry.{aim_of_expiry, at_timer, is_running, runs_at}
 pub use Rattle.model_line.specs.Heard.{heard_side}
 pub use Rattle.model_line.specs.Laws.{orders_in}
-pub use Rattle.model_line.specs.Line.{fresh_line, has_tei, is_terminal, link_in, link_number, link_of, place_at, place_in, service_at, state_in, state_of, terminal_in, terms, tries, with_terminal}
+pub use Rattle.model_line.specs.Line.{fresh_line, has_tei, is_terminal, link_in, link_number, link_of, place_at, place_in, service_at, state_of, terms, tries}
 pub use Rattle.model_line.specs.Machine.{aim_of, of_request, unless_refused, unless_refused_told}
 unfoldable pub use Rattle.model_line.specs.Machine.{after as line_after, answer as line_answer, takes_slot}
 pub use Rattle.model_line.specs.Refusal.{bad_tei, first_that_holds, no_link, refusal}
@@ -195,7 +194,7 @@ pub use Rattle.model_line.specs.Request.{Assign, ClearBusy, Data, Establish, Rel
 pub use Rattle.model_line.specs.Requested.{aim_of_request, at_requested}
 pub use Rattle.model_line.specs.Room.{unless}
 pub use Rattle.model_line.specs.Sound.{IsInRange, IsOfSide, IsSound}
-pub use Rattle.model_line.specs.Taken.{Taken, next_of, own_side, taken, with_given_frame}
+pub use Rattle.model_line.specs.Taken.{next_of, own_side, with_given_frame}
 pub use Rattle.model_line.specs.declared.config.Config.{Config}
 pub use Rattle.model_line.proofs.Following.{and-false}
 pub use Rattle.model_link.proofs.Direction.{named-means}

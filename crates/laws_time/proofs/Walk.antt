@@ -1,5 +1,5 @@
 -- A timed card as it goes on: when the timers of a link fall due.
-use Rattle.laws_time.proofs.Vocabulary.{All-append, All-cons, All-nil, AreAtLines, Bool, Clock, Config, Event, IsAtLine, IsInRange, Lengths, LinkTimer, List, None, Observed, Option, Service, Some, TimedCard, Timer, View, [], after_all-append, ap, arith, at, cond, duration, false, frames_after_all as after_all, is_anew, moment_of, not, obeyed, orders_in, refl, runs, subst, sym, timer_of, true}
+use Rattle.laws_time.proofs.Vocabulary.{All-append, All-cons, All-nil, AreAtLines, Bool, Clock, Config, Event, IsAtLine, IsInRange, Lengths, LinkTimer, List, None, Observed, Option, Service, Some, TimedCard, Timer, View, [], after_all-append, ap, arith, at, cond, duration, false, frames_after_all as after_all, is_anew, moment_of, not, orders_in, refl, runs, subst, sym, timer_of, true}
 use Rattle.laws_time.proofs.Vocabulary.{true≢false, view_behind, view_of, ℕ, ◌&&◌, ◌++◌, ◌+◌, ◌<◌, ◌||◌, ◌∙◌, ◌∷◌, ◌≡◌, ◌≤◌}
 use Rattle.model_line.specs.Event as line_event
 use Rattle.model_card.specs.Card.{fresh}
@@ -55,10 +55,7 @@ module _ (c : Config) (lengths : Lengths) (late number : ℕ) (ranged : IsInRang
     q-is = ap (λ (v : View). v.link) (view-then c service tei number events (at number what))
 
     moment-then : moment_of number (its timer) then_clock.running ≡ left c service tei timer o q what (t.clock.now + duration lengths (its timer)) (moment_of number (its timer) t.clock.running)
-    moment-then =
-        ap (λ card. moment_of number (its timer) (obeyed number (orders_in (answer (at number what) card)) t.clock).running) s.card
-        ∙ moment-left c events number ranged s.all within service tei what t.clock timer
-        ∙ ap (λ l. left c service tei timer o q what (t.clock.now + duration l (its timer)) (moment_of number (its timer) t.clock.running)) s.lengths_are
+    moment-then = grind (arith, moment-left)
 
     now-then : then_clock.now ≡ t.clock.now
     now-then = now-stays number t.clock (orders_in (answer (at number what) t.card))

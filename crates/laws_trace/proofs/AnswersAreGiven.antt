@@ -1,8 +1,8 @@
 -- What answers a poll, SABME or DISC is given within a number of calls: the law.
-use Rattle.laws_trace.proofs.Vocabulary.{◌≡◌, ℕ, ◌+◌, ◌-◌, ◌<◌, ◌==◌, ◌&&◌, Bool, true, false, cond, All, List, [], ◌∷◌, ◌++◌, map, length, take, drop, filter, Some, refl, sym, ap, ◌∙◌, subst, arith, append_assoc, option_map_or, All-head, All-cons, All-nil, Service, ControlFrame, Config, Line, IsInRange, control_text, deactivates, place_in, tei_at, link_at, link_in, link_number, link_count}
-use Rattle.laws_trace.proofs.Vocabulary.{place_of-is, place_at-number, service_at-number, number_within, at-within, unit_frame, line_at, at, moments, fresh, fresh_link, fresh_is_sound, always_sound, config-stays, all-left, all-right, CardEvent as Event, after, Card, after_all, IsAtLine, AreAtLines, after_all-append, Always, not, and_parts, eq-eqb, Answer, Managed, managed_after}
+use Rattle.laws_trace.proofs.Vocabulary.{◌≡◌, ℕ, ◌+◌, ◌-◌, ◌<◌, ◌==◌, ◌&&◌, Bool, true, false, cond, List, [], ◌∷◌, ◌++◌, map, length, take, drop, filter, Some, refl, sym, ap, ◌∙◌, subst, arith, append_assoc, option_map_or, All-head, All-cons, All-nil, Service, ControlFrame, Config, Line, IsInRange, control_text, deactivates, place_in, tei_at, link_at, link_in, link_number, link_count}
+use Rattle.laws_trace.proofs.Vocabulary.{place_of-is, place_at-number, service_at-number, number_within, at-within, line_at, at, moments, fresh, fresh_link, fresh_is_sound, always_sound, config-stays, all-left, all-right, CardEvent as Event, after, Card, after_all, IsAtLine, AreAtLines, after_all-append, Always, not, and_parts, eq-eqb, Answer, Managed, managed_after}
 use Rattle.laws_trace.proofs.Vocabulary.{managing_is_on as is_on}
-use Rattle.laws_trace.proofs.Vocabulary.{has_tei, View, Outgoing, outgoing_of, lost_in, take-length, length-map, is_take, takes_of, frames_given, waiting-taken, most_frames_before, changed, command_of, put_in, is_frame_of, Observed, by_event, enters, in_state, moment_of, view_of, views, outgoing_waits as waits, trace_frame_in as frame_in, Moment, units_of, text}
+use Rattle.laws_trace.proofs.Vocabulary.{has_tei, View, Outgoing, outgoing_of, lost_in, take-length, length-map, is_take, takes_of, frames_given, waiting-taken, most_frames_before, changed, command_of, put_in, is_frame_of, Observed, by_event, enters, in_state, moment_of, view_of, views, outgoing_waits as waits, trace_frame_in as frame_in, Moment, text}
 use Rattle.model_line.specs.Event as line_event
 use Rattle.model_line.specs.Line.{is_terminal}
 use Rattle.model_line.specs.Sound.{IsOfSide}
@@ -61,10 +61,7 @@ module _ (c : Config) (number : ℕ) (ranged : IsInRange c) (within : number < c
 
   -- the frames that go first
   first-are : (events : List Event) → AreAtLines (fresh c) events → priority_waiting c number events ≡ at_line.priority_waiting (end events)
-  first-are events all =
-      let units = ap length (waiting-is c events number ranged all within) ∙ length-map (end events).units (unit_frame c) in
-      ap (λ n. n + length (units_of c events number)) (messages-are events all)
-      ∙ ap (λ n. length (end events).management.waiting + length (end events).own.waiting + n) units
+  first-are events all = grind (arith, waiting-is, length-map, messages-are)
 
   card-then : (before : List Event) (e : Event) → card (before ++ e ∷ []) ≡ after e (card before)
   unfolding after_all
@@ -179,20 +176,14 @@ module _ (c : Config) (number : ℕ) (ranged : IsInRange c) (within : number < c
 
       taken : AreTaken (card before).config
       unfolding AreTaken after_all
-      taken few some less =
-          waiting-taken (card before) behind (always_sound (fresh c) before (fresh_is_sound c ranged) front-lines)
-          (subst (λ (d : Config). All (λ (e : Event). e.line < d.lines) behind) (sym (config-stays (fresh c) before)) (all-right (IsAtLine (fresh c)) before behind all))
-          [] behind refl number link tei few some link-stays link-up less
+      taken few some less = grind (arith, waiting-taken, always_sound, fresh, fresh_is_sound, front-lines, config-stays, all-right, link-stays, link-up)
 
       pub given-in-order : most_frames_before c + priority_added c number before behind < takes_of number behind → AreAmong (texts c service tei (outgoing_of c service tei number before).waiting) (frames_given number (moments (after_all (fresh c) before) behind))
       unfolding AreTaken
-      given-in-order enough =
-          let so : AreTaken c = subst AreTaken (config-stays (fresh c) before) taken in
-          subst (λ xs. AreAmong xs given) texts-are (so within link-few (omega (arith, enough, come-so before behind all)))
+      given-in-order enough = grind (arith, config-stays, fresh, taken, texts-are, link-few, come-so)
 
 pub waiting-is-given : Always QueueIsSent
-waiting-is-given c events number ranged all within before behind service tei split stays enough =
-    given-in-order c number ranged within service tei before behind (subst (AreAtLines (fresh c)) split all) stays enough
+waiting-is-given c events number ranged all within before behind service tei split stays enough = grind (arith, given-in-order, fresh)
 
 -- ---- what an event puts waits last
 

@@ -1,5 +1,5 @@
 -- Asking for a TEI ends: runs of a card, and the law.
-use Rattle.laws_trace.proofs.Vocabulary.{◌≡◌, ℕ, ◌+◌, ◌<◌, ◌≤◌, ◌==◌, ◌&&◌, Bool, true, false, cond, not, List, [], ◌∷◌, ◌++◌, length, length-append, filter, Option, Some, None, is_some, refl, sym, ap, ◌∙◌, subst, ◌⊎◌, inl, inr, arith, nat_lt, fold-append, sum_by-cons, append-nil, append_assoc, All, All-head, All-tail, option_map_or, Card, none-some, true≢false, eqb-true, Config, IsInRange, Note}
+use Rattle.laws_trace.proofs.Vocabulary.{◌≡◌, ℕ, ◌+◌, ◌<◌, ◌≤◌, ◌==◌, ◌&&◌, Bool, true, false, cond, not, List, [], ◌∷◌, ◌++◌, length, length-append, filter, Option, Some, None, is_some, refl, sym, ap, ◌∙◌, subst, ◌⊎◌, inl, arith, nat_lt, fold-append, sum_by-cons, append-nil, append_assoc, All, All-head, All-tail, Card, none-some, true≢false, eqb-true, Config, IsInRange, Note}
 use Rattle.laws_trace.proofs.Vocabulary.{at, moments, Moment, after_all-append, all-left, unwrap_or, list_any}
 use Rattle.laws_trace.proofs.Vocabulary.{fresh, CardEvent as Event, after, card_answer as answer, after_all, IsAtLine, AreAtLines, Managed, nothing_due, none_on, due, led, managed_after, Always, notes_of, is_of_teis, moment_of}
 use Rattle.lapd_terminal.specs.declared.procedure.Procedure.{Procedure}
@@ -7,8 +7,7 @@ use Rattle.laws_line.specs.Share.{is_granted}
 use Rattle.model_line.specs.Event as line_event
 use Rattle.model_line.specs.Event.{expiry, request}
 use Rattle.model_line.specs.Line.{is_terminal}
-use Rattle.model_line.specs.Request.{Establish, Release, Data, Unit, Assign, Remove, Check, Disown, AskTei, VerifyTei, SetBusy, ClearBusy, Deactivate, Down}
-use Rattle.lapd_frame.specs.declared.timers.Timer.TheVariants.{T200, T201, T202, T203}
+use Rattle.model_line.specs.Request.{AskTei}
 use Rattle.laws_trace.specs.AskingEnds.{is_result, results_in, results, is_t202, expiries, breaks_off, goes_on, HasResult, AskingEnds}
 use Rattle.laws_trace.specs.Managing.{at_terminal, of_terminal, own_of}
 use Rattle.laws_trace.specs.ManagingTerminal as terminal
@@ -35,25 +34,11 @@ abbrev Runs : ℕ → ℕ → Option ℕ → Type 0
 Runs expired told o = ((told ≡ 0) × (expired ≤ 2) × (o ≡ Some (expired + 1))) ⊎ ((told ≡ 1) × (o ≡ None))
 
 goes-so : (expired told : ℕ) (o : Option ℕ) (t : OfTerminal) → Runs expired told o → Goes o t → Runs (expired + 0) (told + told_of t) (asking_of t.procedure)
-goes-so expired told o t (inl r) (inl g) = inl (omega (arith, r, g), omega (arith, r), g.1 ∙ r.2 ∙ ap (λ n. Some (n + 1)) (omega arith))
-goes-so expired told o t (inl r) (inr g) = inr (omega (arith, r, g), g.1.1)
-goes-so expired told o t (inr r) (inl g) = inr (omega (arith, r, g), g.1 ∙ r.1)
-goes-so expired told o t (inr r) (inr g) = absurd (true≢false (sym g.0 ∙ ap is_some r.1))
+goes-so expired told o t h h' = grind (arith, true≢false, is_some)
 
 expires-so : (expired told : ℕ) (o : Option ℕ) (t u : OfTerminal) (quiet : t.notes ≡ []) → Runs expired told o → Expires o u
     → Runs (expired + 1) (told + told_of u) (asking_of u.procedure)
-expires-so expired told None t u quiet (inr r) g = inr (omega (arith, r, g), g.1)
-expires-so expired told None t u quiet (inl r) g = absurd (none-some (expired + 1) r.2)
-expires-so expired told (Some n) t u quiet (inr r) g = absurd (none-some n (sym r.1))
-expires-so expired told (Some n) t u quiet (inl r) g = go (nat_lt n 3) refl g
-  where
-    is : n ≡ expired + 1
-    is = ap (λ o. unwrap_or o 0) r.2
-
-    go : (b : Bool) → nat_lt n 3 ≡ b → cond b ((told_of u ≡ 0) × (asking_of u.procedure ≡ Some (n + 1))) ((told_of u ≡ 1) × (asking_of u.procedure ≡ None))
-        → Runs (expired + 1) (told + told_of u) (asking_of u.procedure)
-    go true less d = inl (omega (arith, r, d), grind (arith, nat_lt), d.1 ∙ ap (λ n. Some (n + 1)) is)
-    go false less d = inr (omega (arith, r, d), d.1)
+expires-so expired told o t u quiet h g = grind (arith, none-some, nat_lt)
 
 moved : {k l m n : ℕ} {o p : Option ℕ} → k ≡ l → m ≡ n → o ≡ p → Runs k m o → Runs l n p
 moved {k} {l} {m} {n} {o} {p} ks ms os r = subst (λ p. Runs l n p) os (subst (λ n. Runs l n o) ms (subst (λ l. Runs l m o) ks r))
@@ -65,16 +50,13 @@ summed : (n : ℕ) (xs ys : List Note) → n + length xs + length ys ≡ n + len
 summed n xs ys = omega (arith, (length-append xs ys))
 
 not-so : (b : Bool) → not b ≡ true → b ≡ false
-not-so true h = absurd (true≢false (sym h))
-not-so false h = refl
+not-so b h = grind (arith, true≢false)
 
 and-then : (b d : Bool) → (b && d) ≡ true → d ≡ true
-and-then true d h = h
-and-then false d h = absurd (true≢false (sym h))
+and-then b d h = grind (arith, true≢false)
 
 none-runs : (p : Option Procedure) → not (is_some p) ≡ true → p ≡ None
-none-runs None h = refl
-none-runs (Some p) h = absurd (true≢false (sym h))
+none-runs p h = grind (arith, true≢false)
 
 -- What is due by an event of a terminal's line.
 module _ (c : Config) (is : is_terminal c ≡ true) (w : Managed) (e : line_event.Event) where
@@ -88,30 +70,14 @@ module _ (c : Config) (is : is_terminal c ≡ true) (w : Managed) (e : line_even
   due-is = ap (λ b. cond b (at_terminal c e (nothing_due w)) (Rattle.laws_trace.specs.Managing.by_event c e (nothing_due w))) is
 
   notes-are : (due c e w).notes ≡ u.notes
-  notes-are = ap (λ (d : Managed). d.notes) due-is ∙ go (terminal.by_event c e t)
-    where
-      go : (o : Option OfTerminal) → (option_map_or (of_terminal (nothing_due w)) o (nothing_due w)).notes ≡ (unwrap_or o t).notes
-      go None = refl
-      go (Some d) = refl
+  notes-are = grind (arith, due-is, terminal.by_event, of_terminal, nothing_due)
 
   asks-then : (own_of c (due c e w)).procedure ≡ u.procedure
-  asks-then = ap (λ (d : Managed). (own_of c d).procedure) due-is ∙ go (terminal.by_event c e t)
-    where
-      go : (o : Option OfTerminal) → (own_of c (option_map_or (of_terminal (nothing_due w)) o (nothing_due w))).procedure ≡ (unwrap_or o t).procedure
-      go None = refl
-      go (Some d) = refl
-
-  granted-is : (r : Rattle.model_line.specs.Request.Request) → e ≡ request r → (due c e w).granted ≡ u.granted
-  granted-is r req = ap (λ (d : Managed). d.granted) due-is ∙ go (terminal.by_event c e t)
-    where
-      go : (o : Option OfTerminal) → (option_map_or (of_terminal (nothing_due w)) o (nothing_due w)).granted ≡ (unwrap_or o t).granted
-      go None = refl
-      go (Some d) = refl
+  asks-then = grind (arith, due-is, terminal.by_event, of_terminal, nothing_due)
 
 -- Only a terminal is granted the request, and it asks then for the first time.
 ask-granted : (c : Config) (w : Managed) (b : Bool) → is_terminal c ≡ b → (due c (request AskTei) w).granted ≡ Some (b && (list_any is_free (own_of c w).places && not (is_some (own_of c w).procedure)))
-ask-granted c w true is = ap (λ (d : Managed). d.granted) (due-is c is w (request AskTei))
-ask-granted c w false is = ap (λ b. (cond b (at_terminal c (request AskTei) (nothing_due w)) (Rattle.laws_trace.specs.Managing.by_event c (request AskTei) (nothing_due w))).granted) is
+ask-granted c w b h = grind (arith, due-is, request, nothing_due)
 
 -- A run of a line.
 module _ (c : Config) (number : ℕ) (ranged : IsInRange c) (within : number < c.lines) where
@@ -143,32 +109,10 @@ module _ (c : Config) (number : ℕ) (ranged : IsInRange c) (within : number < c
     -- one event of the line
     breaks-not : (before : List Event) → AreAtLines (fresh c) before → (what : line_event.Event) → breaks_off what (moment_of c before number what).answer ≡ false
         → breaks_by (its before) what ≡ false
-    breaks-not before all (line_event.hears e) stays = refl
-    breaks-not before all (expiry timer) stays = refl
-    breaks-not before all line_event.next stays = refl
-    breaks-not before all (request AskTei) stays = sym (grants-so before all true is) ∙ stays
-    breaks-not before all (request Down) stays = absurd (true≢false stays)
-    breaks-not before all (request (Establish service tei)) stays = refl
-    breaks-not before all (request (Release service tei)) stays = refl
-    breaks-not before all (request (Data service tei contents)) stays = refl
-    breaks-not before all (request (Unit service tei contents)) stays = refl
-    breaks-not before all (request (Assign tei)) stays = refl
-    breaks-not before all (request (Remove tei)) stays = refl
-    breaks-not before all (request (Check tei)) stays = refl
-    breaks-not before all (request (Disown tei)) stays = refl
-    breaks-not before all (request (VerifyTei tei)) stays = refl
-    breaks-not before all (request (SetBusy service tei)) stays = refl
-    breaks-not before all (request (ClearBusy service tei)) stays = refl
-    breaks-not before all (request (Deactivate service tei)) stays = refl
+    breaks-not before all what stays = grind (arith, grants-so, is, true≢false)
 
     ran-out : (before : List Event) (what : line_event.Event) → is_t202 what ≡ true → u c is (managed_after c number before) what ≡ terminal.ran_out (its before).procedure (its before)
-    ran-out before (expiry T202) it = refl
-    ran-out before (expiry T201) it = absurd (true≢false (sym it))
-    ran-out before (expiry (T200 service tei)) it = absurd (true≢false (sym it))
-    ran-out before (expiry (T203 service tei)) it = absurd (true≢false (sym it))
-    ran-out before (line_event.hears e) it = absurd (true≢false (sym it))
-    ran-out before (request r) it = absurd (true≢false (sym it))
-    ran-out before line_event.next it = absurd (true≢false (sym it))
+    ran-out before what it = grind (arith, true≢false)
 
     module _ (before : List Event) (all : AreAtLines (fresh c) before) (what : line_event.Event) (expired told : ℕ) (runs : Runs expired told (asking before)) where
       abbrev w : Managed
@@ -178,21 +122,14 @@ module _ (c : Config) (number : ℕ) (ranged : IsInRange c) (within : number < c
       m = moment_of c before number what
 
       told-is : length (filter is_result (notes_of m.answer)) ≡ told_of (u c is w what)
-      told-is =
-          ap length (sym (filter-both (notes_of m.answer)))
-          ∙ ap (λ ns. length (filter is_result ns)) ((teis-are-managed c before number ranged all within what).notes ∙ notes-are c is w what)
+      told-is = grind (arith, filter-both, teis-are-managed, notes-are, is)
 
       leads : (b : Bool) → is_t202 what ≡ b → breaks_off what m.answer ≡ false → Runs (expired + cond b 1 0) (told + told_of (u c is w what)) (asking_of (u c is w what).procedure)
-      leads true it stays =
-          subst (λ x. Runs (expired + 1) (told + told_of x) (asking_of x.procedure)) (sym (ran-out before what it))
-          (expires-so expired told (asking before) (its before) (terminal.ran_out (its before).procedure (its before)) refl runs (expires (its before) refl (its before).procedure refl))
-      leads false it stays =
-          goes-so expired told (asking before) (u c is w what) runs (happens (its before) refl c what it (breaks-not before all what stays))
+      leads b it stays = grind (arith, ran-out, expires-so, expires, goes-so, is, happens, breaks-not)
 
       pub one-more : breaks_off what m.answer ≡ false
           → Runs (expired + cond (is_t202 what) 1 0) (told + length (filter is_result (notes_of m.answer))) (asking_of (own_of c (due c what w)).procedure)
-      one-more stays =
-          moved refl (ap (λ n. told + n) (sym told-is)) (ap asking_of (sym (asks-then c is w what))) (leads (is_t202 what) refl stays)
+      one-more stays = grind (arith, moved, told-is, asks-then, is, leads)
 
       -- The event may be of another line.
       abbrev Then : ℕ → Bool → Type 0
@@ -202,8 +139,7 @@ module _ (c : Config) (number : ℕ) (ranged : IsInRange c) (within : number < c
           → Runs (expired + cond (b && is_t202 what) 1 0) (told + length (cond b (filter is_result (notes_of a)) [])) (asking_of (own_of c (cond b (due c what w) w)).procedure)
 
       then-so : (n : ℕ) (b : Bool) → (n == number) ≡ b → Then n b
-      then-so n true same = subst (λ k. Then k true) (sym (eqb-true n number same)) (λ on. one-more (not-so (breaks_off what m.answer) on))
-      then-so n false same = λ on. moved (omega arith) (omega arith) refl runs
+      then-so n b same = grind (arith, eqb-true, one-more, not-so, breaks_off, moved)
 
     walks : (before later : List Event) → AreAtLines (fresh c) (before ++ later) → (expired told : ℕ) → Runs expired told (asking before)
         → All (λ m. goes_on number m ≡ true) (moments (card before) later)
@@ -243,12 +179,7 @@ module _ (c : Config) (number : ℕ) (ranged : IsInRange c) (within : number < c
 
 -- What the run comes to.
 has-result : (expired : ℕ) (ns : List Note) (again : Bool) (o : Option ℕ) → Runs expired (length ns) o → (again ≡ true → o ≡ None) → HasResult expired again ns
-has-result expired ns again o (inl r) none = record {
-  once = omega (arith, r);
-  ends = λ three. absurd (omega (arith, r, three));
-  first = λ so. absurd (none-some (expired + 1) (sym (none so) ∙ r.2));
-}
-has-result expired ns again o (inr r) none = record { once = omega (arith, r); ends = λ three. r.0; first = λ so. r.0 }
+has-result expired ns again o h none = grind (arith, none-some)
 
 pub asking-ends : Always AskingEnds
 asking-ends c events number ranged all within past later is granted on = go (is_terminal c) refl

@@ -1,15 +1,12 @@
 -- What an observer of a terminal's line knows of its asking for a TEI, event by event.
-use Rattle.laws_trace.proofs.Vocabulary.{◌≡◌, ℕ, ◌+◌, ◌*◌, ◌/◌, ◌%◌, ◌==◌, ◌&&◌, Bool, true, false, cond, not, List, [], ◌∷◌, ◌++◌, length, filter, Option, Some, None, refl, sym, ap, ◌∙◌, ◌⊎◌, inl, inr, fold, list_any, is_some, nat_lt, nat_le, unwrap_or, option_and_then, true≢false, Config, Parts}
-use Rattle.lapd_frame.specs.declared.notes.Note.TheVariants.{Assigned, Unassigned, Denied}
-use Rattle.lapd_frame.specs.declared.timers.Timer.TheVariants.{T200, T201, T202, T203}
-use Rattle.lapd_terminal.specs.declared.messages.Message.TheVariants.{IdentityCheckResponse}
+use Rattle.laws_trace.proofs.Vocabulary.{◌≡◌, ℕ, ◌+◌, ◌*◌, ◌/◌, ◌%◌, ◌==◌, ◌&&◌, Bool, true, false, cond, not, List, [], ◌∷◌, length, filter, Option, Some, None, refl, ap, ◌∙◌, ◌⊎◌, inl, fold, list_any, is_some, nat_lt, nat_le, unwrap_or, option_and_then, true≢false, Config, Parts}
 use Rattle.lapd_terminal.specs.declared.procedure.Procedure.{Procedure}
 use Rattle.lapd_terminal.specs.declared.procedure.Procedure.TheVariants.{Asking, Verifying}
-use Rattle.model_line.specs.Event.{Event, hears, expiry, request, next}
-use Rattle.model_line.specs.Request.{Request, Assign, Remove, Check, Disown, AskTei, VerifyTei, Down, Establish, Release, Data, Unit, SetBusy, ClearBusy, Deactivate}
+use Rattle.model_line.specs.Event.{Event, request}
+use Rattle.model_line.specs.Request.{Request, AskTei, Down}
 use Rattle.laws_trace.specs.AskingEnds.{is_result, is_t202}
-use Rattle.laws_trace.specs.LinkFrames.{frame_of}
-use Rattle.laws_trace.specs.ManagingTerminal.{OfTerminal, verified, responds, by_assigned, by_denied, by_check, by_remove, by_message, by_frame, by_request, by_event, grants, with_tei, is_verified, is_on, is_free, is_message, is_response_for, named, over, removed, leaves, ran_out, asks, verifies}
+use Rattle.laws_trace.specs.ManagingTerminal.{OfTerminal, verified, responds, by_assigned, by_denied, by_check, by_remove, by_message, by_frame, by_request, by_event, grants, is_verified, is_free, named, over, removed, leaves, ran_out, asks, verifies}
+use Rattle.laws_trace.proofs.Vocabulary.{arith}
 
 -- The attempts of the asking that runs.
 abbrev pub asking_of : Option Procedure → Option ℕ
@@ -51,23 +48,13 @@ pub record IsSame (t u : OfTerminal) : Type 0 where
   pub asking : asking_of u.procedure ≡ asking_of t.procedure
 
 verifying-is : (tei : ℕ) (o : Option Procedure) → is_verified tei o ≡ true → asking_of o ≡ None
-verifying-is tei None is = absurd (true≢false (sym is))
-verifying-is tei (Some (Asking ri n)) is = absurd (true≢false (sym is))
-verifying-is tei (Some (Verifying on n)) is = refl
+verifying-is tei o is = grind (arith, true≢false)
 
 pub verified-same : (tei : ℕ) (t : OfTerminal) → IsSame t (verified tei t)
-verified-same tei t = go (is_verified tei t.procedure) refl
-  where
-    go : (b : Bool) → is_verified tei t.procedure ≡ b → IsSame t (cond b (over t) t)
-    go true is = record { notes = refl; asking = sym (verifying-is tei t.procedure is) }
-    go false is = record { notes = refl; asking = refl }
+verified-same tei t = grind (arith, over, verifying-is)
 
 responds-same : (tei : ℕ) (t : OfTerminal) → IsSame t (responds t tei)
-responds-same tei t = go (list_any (is_response_for tei) t.owed)
-  where
-    go : (b : Bool) → IsSame t (cond b t (record t { number = (25173 * t.number + 13849) % 65536; owed = t.owed ++ IdentityCheckResponse t.number tei ∷ [] }))
-    go true = record { notes = refl; asking = refl }
-    go false = record { notes = refl; asking = refl }
+responds-same tei t = grind arith
 
 along : {t u v : OfTerminal} → IsSame t u → IsSame u v → IsSame t v
 along h j = record { notes = j.notes ∙ h.notes; asking = j.asking ∙ h.asking }
@@ -94,42 +81,22 @@ module _ (t : OfTerminal) (quiet : t.notes ≡ []) where
   of-same u h = inl (ap (λ ns. length (filter is_result ns)) (h.notes ∙ quiet), h.asking)
 
   assigned : (ri tei : ℕ) (p : Option Procedure) → t.procedure ≡ p → Goes (asking_of p) (then_ (by_assigned ri tei p t))
-  assigned ri tei None is = go (is_on tei t)
-    where
-      go : (b : Bool) → Goes None (then_ (cond b (Some (verifies tei 1 t)) None))
-      go true = inl (none-told, refl)
-      go false = inl (none-told, ap asking_of is)
-  assigned ri tei (Some (Asking own n)) is = go (own == ri && (nat_le 64 tei && nat_le tei 126 && not (is_on tei t) && list_any is_free t.places))
-    where
-      go : (b : Bool) → Goes (Some n) (then_ (cond b (Some (record (over t) { places = with_tei tei t.places; notes = Assigned tei ∷ [] })) None))
-      go true = inr (refl, (refl, refl))
-      go false = inl (none-told, ap asking_of is)
-  assigned ri tei (Some (Verifying on n)) is = inl (none-told, ap asking_of is)
+  assigned ri tei p is = grind (arith, verifies, none-told, nat_le, is_free, over)
 
   denied : (ri : ℕ) (p : Option Procedure) → t.procedure ≡ p → Goes (asking_of p) (then_ (by_denied ri p t))
-  denied ri None is = inl (none-told, ap asking_of is)
-  denied ri (Some (Asking own n)) is = go (own == ri)
-    where
-      go : (b : Bool) → Goes (Some n) (then_ (cond b (Some (record t { notes = Denied ∷ [] })) None))
-      go true = inl (refl, ap asking_of is)
-      go false = inl (none-told, ap asking_of is)
-  denied ri (Some (Verifying on n)) is = inl (none-told, ap asking_of is)
+  denied ri p is = grind (arith, none-told)
 
   checked : (teis : List ℕ) → Goes o (then_ (by_check teis t))
-  checked [] = nothing
-  checked (tei ∷ teis) = of-same _ (answers-same (tei ∷ teis) t)
+  checked teis = grind (arith, nothing, of-same, answers-same)
 
   is-removed : (tei : ℕ) → Goes o (removed tei t)
   is-removed tei = inl (refl, (verified-same tei t).asking)
 
   removes : (teis : List ℕ) → Goes o (then_ (by_remove teis t))
-  removes [] = nothing
-  removes (tei ∷ []) = is-removed tei
-  removes (tei ∷ other ∷ teis) = inl (refl, refl)
+  removes teis = grind (arith, nothing, is-removed)
 
   either : (b : Bool) (x y : Option OfTerminal) → Goes o (then_ x) → Goes o (then_ y) → Goes o (then_ (cond b x y))
-  either true x y h j = h
-  either false x y h j = j
+  either b x y h j = grind arith
 
   message : (info : List ℕ) → Goes o (then_ (by_message info t))
   message (entity ∷ high ∷ low ∷ type ∷ last ∷ []) =
@@ -145,57 +112,17 @@ module _ (t : OfTerminal) (quiet : t.notes ≡ []) where
   message (a ∷ b ∷ d ∷ e ∷ f ∷ g ∷ more) = nothing
 
   frame : (c : Config) (f : Option Parts) → Goes o (then_ (option_and_then (by_frame c t) f))
-  frame c None = nothing
-  frame c (Some f) = either (is_message c f && f.address.command) _ _ (message f.info) nothing
+  frame c f = grind (arith, nothing, either, message)
 
   pub expires : (p : Option Procedure) → t.procedure ≡ p → Expires (asking_of p) (ran_out p t)
-  expires None is = (none-told, ap asking_of is)
-  expires (Some (Asking ri n)) is = go (nat_lt n 3)
-    where
-      go : (b : Bool) → cond b (Stays (Some (n + 1)) (cond b (asks (n + 1) t) (record (over t) { notes = Unassigned ∷ [] }))) (Ends (cond b (asks (n + 1) t) (record (over t) { notes = Unassigned ∷ [] })))
-      go true = (none-told, refl)
-      go false = (refl, refl)
-  expires (Some (Verifying tei n)) is = go (nat_lt n 2)
-    where
-      go : (b : Bool) → Stays None (cond b (verifies tei (n + 1) t) (removed tei t))
-      go true = (none-told, refl)
-      go false = (refl, (verified-same tei t).asking ∙ ap asking_of is)
+  expires p is = grind (arith, none-told, nat_lt, asks, over, verifies, removed, verified-same)
 
   grants-same : (b : Bool) (u : OfTerminal) → IsSame t u → Goes o (then_ (grants b u t))
-  grants-same true u h = inl (ap (λ ns. length (filter is_result ns)) (h.notes ∙ quiet), h.asking)
-  grants-same false u h = inl (none-told, refl)
+  grants-same b u h = grind (arith, none-told)
 
   requested : (r : Request) → breaks t r ≡ false → Goes o (then_ (by_request r t))
-  requested AskTei stays = go (list_any is_free t.places && not (is_some t.procedure)) stays
-    where
-      go : (b : Bool) → b ≡ false → Goes o (then_ (grants b (asks 1 t) t))
-      go true no_ = absurd (true≢false no_)
-      go false no_ = inl (none-told, refl)
-  requested (VerifyTei tei) stays = go (is_on tei t) t.procedure refl
-    where
-      go : (b : Bool) (p : Option Procedure) → t.procedure ≡ p → Goes (asking_of p) (then_ (grants (b && not (is_some p)) (verifies tei 1 t) t))
-      go true None is = inl (none-told, refl)
-      go true (Some p) is = inl (none-told, ap asking_of is)
-      go false p is = inl (none-told, ap asking_of is)
-  requested (Assign tei) stays = grants-same _ (record t { places = with_tei tei t.places }) (record { notes = refl; asking = refl })
-  requested (Remove tei) stays = grants-same _ (leaves tei t) (record { notes = (verified-same tei t).notes; asking = (verified-same tei t).asking })
-  requested (Check tei) stays = inl (none-told, refl)
-  requested (Disown tei) stays = inl (none-told, refl)
-  requested Down stays = absurd (true≢false stays)
-  requested (Establish service tei) stays = nothing
-  requested (Release service tei) stays = nothing
-  requested (Data service tei contents) stays = nothing
-  requested (Unit service tei contents) stays = nothing
-  requested (SetBusy service tei) stays = nothing
-  requested (ClearBusy service tei) stays = nothing
-  requested (Deactivate service tei) stays = nothing
+  requested r stays = grind (arith, is_free, is_some, grants, asks, true≢false, none-told, verifies, grants-same, leaves, verified-same, nothing)
 
   -- Any event except that of T202.
   pub happens : (c : Config) (e : Event) → is_t202 e ≡ false → breaks_by t e ≡ false → Goes o (then_ (by_event c e t))
-  happens c (hears e) other stays = frame c (frame_of c e)
-  happens c (expiry T202) other stays = absurd (true≢false other)
-  happens c (expiry T201) other stays = nothing
-  happens c (expiry (T200 service tei)) other stays = nothing
-  happens c (expiry (T203 service tei)) other stays = nothing
-  happens c (request r) other stays = requested r stays
-  happens c next other stays = inl (none-told, refl)
+  happens c e other stays = grind (arith, frame, true≢false, nothing, requested, none-told)

@@ -1,5 +1,5 @@
 -- The cause of each drop is told, and no other: the law.
-use Rattle.laws_trace.proofs.Vocabulary.{◌≡◌, ℕ, ◌<◌, ◌==◌, ◌&&◌, ◌||◌, Bool, true, false, or-true, cond, List, Option, Some, None, Ok, Err, Result, refl, sym, ap, ◌∙◌, subst, arith, leb-true, eqb-true, and_parts, nat_le, length, is_some, option_map_or, PoolFull, ReadFault, BadExtension, Address, Side, Network, User, Service, Long, Parts, reading, service_of}
+use Rattle.laws_trace.proofs.Vocabulary.{◌≡◌, ℕ, ◌<◌, ◌==◌, ◌&&◌, ◌||◌, Bool, true, false, or-true, cond, List, Option, Some, None, Ok, Err, Result, refl, sym, ap, ◌∙◌, subst, arith, leb-true, eqb-true, and_parts, nat_le, length, is_some, option_map_or, PoolFull, ReadFault, BadExtension, Address, Side, Service, Long, Parts, reading, service_of}
 use Rattle.laws_trace.proofs.Vocabulary.{Terms, Link, state_number, State, Received, received, frame, undefined, wrong_size, overlong, LinkEvent, link_told, begun, Config, hears, expiry, request, next, Answer, refused, Line, state_of, state_in, place_in, terms, link_in, at_link, at_management, at_none, of_aim, LinkRequest, requested, expired, cleared, at_requested}
 use Rattle.laws_trace.proofs.Vocabulary.{at_deactivated, at_timer, aim_of_expiry, aim_of_request}
 use Rattle.laws_trace.proofs.Vocabulary.{unless_refused, unless_refused_told, refusal, Refusal, Request, Timer, TimerT200, TimerT203, T201, LinkTimer, T200, T203, Aim, addressed, aim_of_reading, aim_of_long, heard_side, message_of, at_side, IsToGroup, group-read, IsSound as IsSoundLine, Card, line_at, is_full, at, always_sound, fresh_is_sound, has_lines, by_room, config-stays, fresh}
@@ -7,13 +7,10 @@ use Rattle.laws_trace.proofs.Vocabulary.{CardEvent as Event, card_answer}
 use Rattle.laws_trace.proofs.Vocabulary.{after_all, IsAtLine, CardIsSound as IsSound, line_sound as sound-at, stream_frame, Managed, managed_after, view_of, is_unit_taken, IfSome, Always, is_ui, is_up, not, tei_message, tei_assign, tei_remove, tei_check, tei_disown}
 use Rattle.laws_trace.proofs.Vocabulary.{told, dropped, none-some, Assign, Checking, ClearBusy, Data, Deactivate, Disown, Down, Establish, Release, Remove, SetBusy, LinkClearBusy, LinkData, LinkEstablish, LinkRelease, LinkSetBusy}
 use Rattle.lapd_frame.specs.declared.controls.Control.{Control}
-use Rattle.lapd_frame.specs.declared.controls.Control.TheVariants.{Information, Ui}
-use Rattle.lapd_frame.specs.Senders.{long_reading}
 use Rattle.lapd_frame.specs.declared.timers.Timer.TheVariants.{T202}
 use Rattle.lapd_tei.specs.Events.{expiry as tei_expiry}
 use Rattle.lapd_terminal.specs.Events as terminals
 use Rattle.lapd_terminal.specs.Events.{Event as TerminalEvent, after as terminal_after, told as terminal_told}
-use Rattle.model_bits.specs.Stream as stream
 use Rattle.model_bits.specs.declared.heard.Cause.{Cause}
 use Rattle.model_bits.specs.declared.heard.Cause.TheVariants.{Sapi, Tei, Unserved}
 use Rattle.lapd_frame.specs.declared.faults.ReadFault.TheVariants.{Undefined, WrongSize, Short}
@@ -33,7 +30,7 @@ use Rattle.laws_trace.specs.CausesAreTold.{CausesAreTold, by_address, by_fault, 
 use Rattle.lapd_frame.specs.Readings.{by_reading}
 use Rattle.lapd_frame.specs.declared.readings.Reading.{Reading}
 use Rattle.lapd_frame.specs.declared.readings.Reading.TheVariants.{Profile, AnnexB}
-use Rattle.laws_trace.specs.LinkFrames.{begins_ui, is_annex_b, is_too_long}
+use Rattle.laws_trace.specs.LinkFrames.{is_annex_b, is_too_long}
 use Rattle.laws_trace.specs.News.{minds}
 use Rattle.laws_trace.specs.Managing.{is_on, manages}
 use Rattle.laws_trace.proofs.CausesOfSide.{Serves, down-quiet, managed-quiet, named, own-quiet, serves-known}
@@ -52,13 +49,10 @@ module _ (c : Config) (service : Service) (tei : ℕ) (l : Link) where
   ServesAsSeen r = (link_told (terms c service tei) (received r) l).unserved ≡ not (served_by c r (state_number l.state))
 
   frame-serves : (address : Address) (control : Control) (info : List ℕ) → ServesAsSeen (frame (record { address = address; control = control; info = info }))
-  frame-serves address (Ui p) info = grind arith
-  frame-serves address (Information ns nr p) info = grind arith
   frame-serves address control info = grind arith
 
   received-serves : (r : Received) → ServesAsSeen r
-  received-serves (frame f) = frame-serves f.address f.control f.info
-  received-serves other = grind arith
+  received-serves other = grind (arith, frame-serves)
 
 named-unless : (b : Bool) → unserved_cause (not b) ≡ unless b
 named-unless b = grind arith
@@ -106,8 +100,7 @@ module _ (c : Config) (l : Line) (w : Managed) (states : Service → ℕ → ℕ
 
     to-services : (tei : ℕ) (o : Option Service)
         → seen (to_service l tei what o) ≡ option_map_or (λ service. cond (is_on tei w) (unless (served (states service tei))) (Some Tei)) o (Some Sapi)
-    to-services tei None = drops Sapi
-    to-services tei (Some service) = there service tei (place_in l tei) refl
+    to-services tei o = grind (arith, there)
 
     addresseds : (a : Address) (m : Aim) (b : Bool) → seen m ≡ unless b → seen (addressed l a what m) ≡ by_address w states served b a
     addresseds a m b is = grind (arith, drops, to-services)
@@ -157,19 +150,16 @@ module _ (c : Config) (l : Line) (w : Managed) (states : Service → ℕ → ℕ
 
       -- a message is that of the side
       by-user : (b : Bool) (info : List ℕ) → named c l (cond b (at_management (tei_message info)) (at_none (dropped Unserved))) ≡ unless (b && serves_information c w info)
-      by-user true info = served info
-      by-user false info = refl
+      by-user b info = grind arith
 
       by-side : (side : Side) (info : List ℕ)
           → named c l (managed_at c f side (tei_message info)) ≡ unless ((manages side || (is_terminal c && f.address.command)) && serves_information c w info)
-      by-side Network info = served info
-      by-side User info = by-user (is_terminal c && f.address.command) info
+      by-side side info = grind (arith, by-user)
 
       -- and none is too long
       by-size : (b : Bool) (info : List ℕ) → named c l (cond b (managed_at c f c.side (tei_message info)) (at_none (dropped Unserved)))
           ≡ unless ((b && (manages c.side || (is_terminal c && f.address.command))) && serves_information c w info)
-      by-size true info = by-side c.side info
-      by-size false info = refl
+      by-size b info = grind (arith, by-side)
 
       message-so : named c l (at_side c f (message_of f.control f.info)) ≡ unless its_message
       message-so = grind (arith, by-size, drops-so)
@@ -206,12 +196,10 @@ module _ (c : Config) (l : Line) where
   links-quiet service tei place e none = ap unserved_cause (others-serve (terms c service tei) e (link_in l service place) none)
 
   asked-quiet : (service : Service) (tei : ℕ) (asked : LinkRequest) (o : Option ℕ) → named c l (at_requested service tei asked o) ≡ None
-  asked-quiet service tei asked None = refl
-  asked-quiet service tei asked (Some place) = links-quiet service tei place (requested asked false) refl
+  asked-quiet service tei asked o = grind (arith, links-quiet, requested)
 
   deactivated-quiet : (service : Service) (tei : ℕ) (o : Option ℕ) → named c l (at_deactivated service tei o) ≡ None
-  deactivated-quiet service tei None = refl
-  deactivated-quiet service tei (Some place) = links-quiet service tei place cleared refl
+  deactivated-quiet service tei o = grind (arith, links-quiet, cleared)
 
   request-quiet : (r : Request) → named c l (aim_of_request r l) ≡ None
   request-quiet (Establish service tei) = asked-quiet service tei LinkEstablish (place_in l tei)
@@ -230,12 +218,10 @@ module _ (c : Config) (l : Line) where
   request-quiet Down = down-quiet c l
 
   unless-quiet : (r : Request) (o : Option Refusal) → cause_in (unless_refused_told o (of_aim c (unless_refused o (aim_of_request r l)) l)) ≡ None
-  unless-quiet r None = request-quiet r
-  unless-quiet r (Some why) = refl
+  unless-quiet r o = grind (arith, request-quiet)
 
   timer-quiet : (service : Service) (tei : ℕ) (timer : LinkTimer) (o : Option ℕ) → named c l (at_timer service tei timer o) ≡ None
-  timer-quiet service tei timer None = refl
-  timer-quiet service tei timer (Some place) = links-quiet service tei place (expired timer) refl
+  timer-quiet service tei timer o = grind (arith, links-quiet, expired)
 
   expiry-quiet : (timer : Timer) → named c l (aim_of_expiry timer l) ≡ None
   expiry-quiet (TimerT200 service tei) = timer-quiet service tei T200 (place_in l tei)
@@ -262,12 +248,7 @@ module _ (c : Config) (l : Line) (s : IsSoundLine c l) (w : Managed) (states : S
 
   cause-is : (e : line_event.Event) → cause_after e ≡ cause_due c w states e
   unfolding lines.answer
-  cause-is (hears (stream.dropped cause)) = refl
-  cause-is (hears (stream.frame octets)) = frame-heard octets (reading (heard_side c) octets) refl
-  cause-is (hears (stream.overlong head)) = longs c l w states agree (begins_ui head) (long_reading (heard_side c) head)
-  cause-is (expiry timer) = expiry-quiet c l timer
-  cause-is (request r) = unless-quiet c l r (refusal c false r l)
-  cause-is next = refl
+  cause-is e = grind (arith, frame-heard, longs, expiry-quiet, unless-quiet)
 
   -- Where one is named, nothing else is said.
   alone-named : (e : line_event.Event) (o : Option Cause) → cause_after e ≡ o → IfSome o (λ cause. lines.answer c e l ≡ told (dropped cause))

@@ -2,13 +2,12 @@
 use Rattle.laws_trace.proofs.Vocabulary.{◌≡◌, ℕ, ◌+◌, ◌*◌, ◌/◌, ◌%◌, ◌==◌, ◌&&◌, Bool, true, false, cond, cond_both, List, [], ◌∷◌, Option, Some, None, refl, sym, ap, ◌∙◌, arith, is_some, option_map_or}
 use Rattle.laws_trace.proofs.Vocabulary.{Config, Line, at_management, at_no_link, of_aim}
 use Rattle.laws_trace.proofs.Vocabulary.{Aim, IsSound as IsSoundLine, at}
-use Rattle.laws_trace.proofs.Vocabulary.{Managed, Management, Change, of_change, told_of_management, TeiTold, tei_after, not, tei_begun, tei_told, tei_message, TeiEvent}
-use Rattle.laws_trace.proofs.Vocabulary.{true≢false, tei_assign, tei_remove, tei_check, tei_disown, tei_step, tei_unless_refused, heard_of_type, Check, Checked, Doubled, Places, list_any, length, nat_le, eq-eqb, subst, owes, TeiCourse as Course}
-use Rattle.laws_trace.proofs.Vocabulary.{tei_course, tei_refusal, no_room, lose_one, free_place}
+use Rattle.laws_trace.proofs.Vocabulary.{Managed, Management, Change, of_change, not, tei_begun, tei_told, tei_message, TeiEvent}
+use Rattle.laws_trace.proofs.Vocabulary.{true≢false, tei_step, tei_unless_refused, heard_of_type, Check, Checked, Doubled, Places, list_any, length, nat_le, eq-eqb, subst, owes, TeiCourse as Course}
+use Rattle.laws_trace.proofs.Vocabulary.{tei_course, tei_refusal, no_room, lose_one}
 use Rattle.lapd_tei.specs.Rows as rows
-use Rattle.lapd_tei.specs.Table as table
 use Rattle.lapd_frame.specs.declared.refusals.Refusal.{Refusal}
-use Rattle.lapd_tei.specs.Events.{down as tei_down, expiry as tei_expiry}
+use Rattle.lapd_tei.specs.Events.{down as tei_down}
 use Rattle.lapd_terminal.specs.Events as terminals
 use Rattle.lapd_terminal.specs.Events.{Event as TerminalEvent, after as terminal_after, told as terminal_told}
 use Rattle.model_bits.specs.declared.heard.Cause.{Cause}
@@ -19,16 +18,14 @@ use Rattle.laws_trace.specs.CausesAreTold.{serves_information, unless}
 use Rattle.lapd_frame.specs.declared.notes.Note.{Note}
 use Rattle.lapd_frame.specs.declared.timers.Order.{Order}
 use Rattle.lapd_frame.specs.Readings.{by_reading}
-use Rattle.lapd_frame.specs.declared.readings.Reading.{Reading}
-use Rattle.lapd_frame.specs.declared.readings.Reading.TheVariants.{Profile, AnnexB}
-use Rattle.lapd_tei.specs.declared.messages.Message.TheVariants.{IdentityCheckRequest, IdentityDenied, IdentityRemove}
+use Rattle.lapd_tei.specs.declared.messages.Message.TheVariants.{IdentityDenied, IdentityRemove}
 use Rattle.lapd_tei.specs.Machine.{next_checked}
 use Rattle.lapd_tei.specs.Messages.{is_extended}
-use Rattle.lapd_tei.specs.Words.{begin_next, check_is, check_is_due, end_check, note, nothing_happens, send, stop_check, unserved}
-use Rattle.laws_trace.specs.Managing.{asks, defers, is_given, own_of, several, verified}
+use Rattle.lapd_tei.specs.Words.{check_is, end_check, note, send, unserved}
+use Rattle.laws_trace.specs.Managing.{asks, is_given, own_of, several, verified}
 use Rattle.laws_trace.specs.ManagingTerminal as seen
 use Rattle.laws_trace.proofs.CheckEnds.{as_seen, seen_check}
-use Rattle.laws_trace.proofs.ManagingReads.{by-both, ends_once, ends-so, given-same, in-both, one-by-one, one-response, otherwise, seen_of}
+use Rattle.laws_trace.proofs.ManagingReads.{by-both, ends-so, given-same, in-both, one-by-one, one-response, otherwise, seen_of}
 use Rattle.laws_trace.proofs.Known.{Knows}
 use Rattle.laws_trace.proofs.ManagingTables.{AreOn}
 use Rattle.laws_trace.proofs.TerminalTables.{IsOnce}
@@ -38,12 +35,7 @@ use Rattle.laws_trace.proofs.Vocabulary.{message_served, responded, checks, opti
 
 -- What an end of a check, and what begins then, leaves served stays so.
 ends-serve : (x : Course) → (end_check x).told.unserved ≡ x.told.unserved
-ends-serve x = go x.now.reading (next_checked x.now)
-  where
-    go : (r : Reading) (o : Option ℕ) → (by_reading r (stop_check x) (begin_next o x)).told.unserved ≡ x.told.unserved
-    go Profile o = refl
-    go AnnexB None = refl
-    go AnnexB (Some tei) = refl
+ends-serve x = grind (arith, next_checked)
 
 -- What TEI management serves.
 module _ (on : List ℕ) (places : Places) (later : List ℕ) (m : Management) (h : AreOn on m.places) (ns : List Note) (os : List Order) (lost : ℕ) (bs : List (List ℕ)) (so : Option Bool) where
@@ -56,13 +48,10 @@ module _ (on : List ℕ) (places : Places) (later : List ℕ) (m : Management) (
   Serving d x = x.told.unserved ≡ not (is_some d)
 
   assigns-new : (ri : ℕ) (p t : Option ℕ) → (rows.assign_new ri p t (tei_begun m)).told.unserved ≡ false
-  assigns-new ri (Some place) (Some tei) = refl
-  assigns-new ri (Some place) None = refl
-  assigns-new ri None t = refl
+  assigns-new ri p t = grind arith
 
   assigns : (ri : ℕ) (o : Option ℕ) → (rows.assign ri o (tei_begun m)).told.unserved ≡ false
-  assigns ri (Some tei) = refl
-  assigns ri None = assigns-new ri (free_place m.places) (table.free_tei m.places)
+  assigns ri o = grind (arith, assigns-new)
 
   requests : (ri : ℕ) → (rows.answer_request ri (tei_begun m)).told.unserved ≡ false
   requests ri = go (no_room m.waiting)
@@ -92,44 +81,19 @@ module _ (on : List ℕ) (places : Places) (later : List ℕ) (m : Management) (
   -- by its type
   module _ (c : Config) (read : m.reading ≡ c.reading) where
     asks-any : (ri : ℕ) → Serving (by_reading c.reading (Some (asks c ri w)) (cond (list_any (is_given ri) m.waiting) None (Some (asks c ri w)))) (rows.request ri (tei_begun m))
-    asks-any ri =
-        in-both Serving m.reading c.reading read (Some (asks c ri w)) (cond (list_any (is_given ri) m.waiting) None (Some (asks c ri w))) (rows.answer_request ri (tei_begun m)) (rows.request_anew ri (tei_begun m))
-        (requests ri)
-        (subst (λ b. Serving (cond b None (Some (asks c ri w))) (rows.request_anew ri (tei_begun m))) (sym (given-same ri m.waiting))
-        (by-both (λ d f. Serving d (f (tei_begun m))) (list_any (rows.assigns_for ri) m.waiting) None (Some (asks c ri w)) unserved (rows.answer_request ri) refl (requests ri)))
+    asks-any ri = grind (arith, in-both, asks, is_given, requests, given-same, by-both, unserved)
 
     asks-own : (ri tei : ℕ) → Serving (by_reading c.reading None (Some (owes (IdentityDenied ri tei) w))) (rows.request_of ri tei (tei_begun m))
     asks-own ri tei = in-both Serving m.reading c.reading read None (Some (owes (IdentityDenied ri tei) w)) (unserved (tei_begun m)) (send (IdentityDenied ri tei) (tei_begun m)) refl refl
 
     verifies : (tei : ℕ) → Serving (verified c tei w) (rows.verify tei (tei_begun m))
-    verifies tei =
-        subst (λ b. Serving (cond (not b) None (option_map_or (λ (check : Checked). cond (check.tei == tei) None (by_reading c.reading None (Some (defers tei w)))) w.check (Some (checks tei None w)))) (rows.verify tei (tei_begun m))) (sym (h.same tei))
-        (go (table.is_on tei m.places))
-      where
-        later-served : (b : Bool) → ((cond b nothing_happens (send (IdentityCheckRequest tei))) (tei_begun m)).told.unserved ≡ false
-        later-served true = refl
-        later-served false = refl
-
-        by-check : (o : Option Check) → Serving (option_map_or (λ (check : Checked). cond (check.tei == tei) None (by_reading c.reading None (Some (defers tei w)))) (option_map seen_check o) (Some (checks tei None w))) (rows.verify_beside tei o (tei_begun m))
-        by-check None = refl
-        by-check (Some check) =
-            by-both (λ d f. Serving d (f (tei_begun m))) (check.tei == tei) None (by_reading c.reading None (Some (defers tei w))) unserved (rows.verify_later tei) refl
-            (in-both Serving m.reading c.reading read None (Some (defers tei w)) (unserved (tei_begun m)) (check_is_due tei (rows.ask_once tei (tei_begun m))) refl (later-served (list_any (rows.asks_for tei) m.waiting)))
-
-        go : (b : Bool) → Serving (cond (not b) None (option_map_or (λ (check : Checked). cond (check.tei == tei) None (by_reading c.reading None (Some (defers tei w)))) w.check (Some (checks tei None w)))) ((cond b (rows.verify_beside tei m.check) unserved) (tei_begun m))
-        go false = refl
-        go true = by-check m.check
+    verifies tei = grind (arith, checks, send, option_map, by-both, unserved, in-both)
 
     none-among : (o : Option Check) → (rows.respond_among None o (tei_begun m)).told.unserved ≡ true
-    none-among None = refl
-    none-among (Some check) = refl
+    none-among o = grind arith
 
     not-several : Serving None (by_reading m.reading (unserved (tei_begun m)) (rows.respond_among None m.check (tei_begun m)))
-    not-several = go m.reading
-      where
-        go : (r : Reading) → Serving None (by_reading r (unserved (tei_begun m)) (rows.respond_among None m.check (tei_begun m)))
-        go Profile = refl
-        go AnnexB = none-among m.check
+    not-several = grind (arith, unserved, none-among)
 
     for-several : (octets : List ℕ) (o : Option Check)
         → Serving (option_and_then (λ (check : Checked). cond (list_any (λ octet. octet / 2 == check.tei) octets) (responded check.tei w check) None) (option_map seen_check o)) (rows.respond_among (Some octets) o (tei_begun m))
@@ -141,17 +105,7 @@ module _ (on : List ℕ) (places : Places) (later : List ℕ) (m : Management) (
     severals : (octets : List ℕ) (a b : Bool)
         → Serving (cond (a && b) (by_reading c.reading None (several w octets)) None)
         (by_reading m.reading (unserved (tei_begun m)) (rows.respond_among (cond (a && b && nat_le 2 (length octets) && nat_le (length octets) 64 && is_extended octets) (Some octets) None) m.check (tei_begun m)))
-    severals octets true true =
-        in-both Serving m.reading c.reading read None (several w octets) (unserved (tei_begun m)) _ refl
-        (subst (λ b. Serving (several w octets) (rows.respond_among (cond (nat_le 2 (length octets) && nat_le (length octets) 64 && b) (Some octets) None) m.check (tei_begun m))) (ends-so octets)
-        (go (nat_le 2 (length octets) && nat_le (length octets) 64 && ends_once octets)))
-      where
-        go : (b : Bool) → Serving (cond (not b) None (option_and_then (λ (check : Checked). cond (list_any (λ octet. octet / 2 == check.tei) octets) (responded check.tei w check) None) w.check))
-            (rows.respond_among (cond b (Some octets) None) m.check (tei_begun m))
-        go true = for-several octets m.check
-        go false = none-among m.check
-    severals octets true false = not-several
-    severals octets false b = not-several
+    severals octets a b = grind (arith, in-both, unserved, nat_le, ends-so, responded, for-several, none-among, not-several)
 
     by-type : (type ri action : ℕ) → Serving (seen_of c type ri action w) (rows.serve (heard_of_type type ri action) None (tei_begun m))
     by-type type ri action =
@@ -195,18 +149,11 @@ module _ (m : Management) where
   down-serves = grind arith
 
   unless-serves : (o : Option Refusal) (e : TeiEvent) → (tei_step e (tei_begun m)).told.unserved ≡ false → (tei_unless_refused o (tei_step e) m).told.unserved ≡ false
-  unless-serves None e h = h
-  unless-serves (Some why) e h = refl
+  unless-serves o e h = grind arith
 
 managed-serve : (e : TeiEvent) (m : Management) → is_message e ≡ false → (tei_told e m).unserved ≡ false
 unfolding tei_course
-managed-serve (tei_message info) m none = absurd (true≢false none)
-managed-serve tei_expiry m none = unless-serves m (tei_refusal tei_expiry m) tei_expiry (expire-serves m)
-managed-serve (tei_assign tei) m none = unless-serves m (tei_refusal (tei_assign tei) m) (tei_assign tei) (put-serves m tei)
-managed-serve (tei_remove tei) m none = unless-serves m (tei_refusal (tei_remove tei) m) (tei_remove tei) (take-serves m tei)
-managed-serve (tei_check tei) m none = unless-serves m (tei_refusal (tei_check tei) m) (tei_check tei) refl
-managed-serve (tei_disown tei) m none = unless-serves m (tei_refusal (tei_disown tei) m) (tei_disown tei) refl
-managed-serve tei_down m none = unless-serves m (tei_refusal tei_down m) tei_down (down-serves m)
+managed-serve e m none = grind (arith, true≢false, unless-serves, expire-serves, put-serves, take-serves, down-serves)
 
 -- The cause that an aim comes to. What TEI management tells stays, whatever its links tell then.
 abbrev pub named : Config → Line → Aim → Option Cause
@@ -227,18 +174,10 @@ own-named : (c : Config) (e : TerminalEvent) (l : Line) → named c l (at_termin
 own-named c e l = let t = terminal_told e (terminal_in l) in change-keeps c t.change (told_of_terminal t) (with_terminal (terminal_after e (terminal_in l)) l)
 
 own-named-if : (c : Config) (o : Option TerminalEvent) (l : Line) → (of_terminal_if c o l).told.cause ≡ unserved_cause (unserved_there o l)
-own-named-if c None l = refl
-own-named-if c (Some e) l = own-named c e l
+own-named-if c o l = grind (arith, own-named)
 
 pub managed-named : (c : Config) (e : TeiEvent) (l : Line) → named c l (at_management e) ≡ unserved_cause (unserved_by c e l)
-managed-named c e l = go (is_terminal c)
-  where
-    t : TeiTold
-    t = tei_told e l.management
-
-    go : (b : Bool) → (cond b (of_terminal_if c (at_a_terminal e) l) (of_network c e l)).told.cause ≡ unserved_cause (cond b (unserved_there (at_a_terminal e) l) (tei_told e l.management).unserved)
-    go true = own-named-if c (at_a_terminal e) l
-    go false = change-keeps c t.change (told_of_management t) (record l { management = tei_after e l.management })
+managed-named c e l = grind (arith, of_network, own-named-if, change-keeps)
 
 pub unserved-named : (served unserved : Bool) → unserved ≡ not served → unserved_cause unserved ≡ unless served
 unserved-named served unserved is = grind arith
@@ -269,13 +208,7 @@ module _ (c : Config) (l : Line) where
   own-quiet e none = own-named c e l ∙ ap unserved_cause (others-served e (terminal_in l) none)
 
   serves-quietly : (e : TeiEvent) (l : Line) → is_message e ≡ false → option_map_or is_own_message (at_a_terminal e) false ≡ false → unserved_by c e l ≡ false
-  serves-quietly e l none none-there =
-      cond_both (is_terminal c) (unserved_there (at_a_terminal e) l) (tei_told e l.management).unserved (λ b. b ≡ false)
-      (λ is. unserved-if (at_a_terminal e) none-there) (λ net. managed-serve e l.management none)
-    where
-      unserved-if : (o : Option TerminalEvent) → option_map_or is_own_message o false ≡ false → unserved_there o l ≡ false
-      unserved-if None none = refl
-      unserved-if (Some e) none = others-served e (terminal_in l) none
+  serves-quietly e l none none-there = grind (arith, cond_both, managed-serve, others-served)
 
   pub managed-quiet : (e : TeiEvent) → is_message e ≡ false → option_map_or is_own_message (at_a_terminal e) false ≡ false → named c l (at_management e) ≡ None
   managed-quiet e none none-there = managed-named c e l ∙ ap unserved_cause (serves-quietly e l none none-there)

@@ -1,20 +1,17 @@
 -- What the observer of a line knows of its TEIs, and what of it changes as a check ends and a TEI leaves.
-use Rattle.laws_trace.proofs.Vocabulary.{◌≡◌, ℕ, ◌==◌, Bool, true, false, cond, not, List, [], ◌∷◌, ◌++◌, Option, Some, None, IfSome, option_map, option_map_or, refl, sym, ap, ◌∙◌, subst, filter, find, Note, T201, Places, IsSoundTable, Management, Remembered, Period, First, Second}
+use Rattle.laws_trace.proofs.Vocabulary.{◌≡◌, ℕ, ◌==◌, Bool, true, false, cond, not, List, [], ◌∷◌, ◌++◌, Option, Some, None, IfSome, option_map, option_map_or, refl, sym, ap, subst, filter, find, Note, T201, Places, IsSoundTable, Management, Remembered, Period, First, Second}
 use Rattle.laws_trace.proofs.Vocabulary.{Check, TeiCourse as Course, Checked, Managed, nothing_due, leaves, over, checks, is_of_teis}
 use Rattle.laws_trace.proofs.Vocabulary.{is_of_line, end_check, leave}
 use Rattle.lapd_tei.specs.Rows as rows
-use Rattle.lapd_frame.specs.Readings.{by_reading}
-use Rattle.lapd_frame.specs.declared.readings.Reading.{Reading}
-use Rattle.lapd_frame.specs.declared.readings.Reading.TheVariants.{Profile, AnnexB}
 use Rattle.lapd_frame.specs.declared.timers.Order.TheVariants.{Start, Stop}
-use Rattle.lapd_tei.specs.Machine.{next_checked, tei_at, is_due}
+use Rattle.lapd_tei.specs.Machine.{next_checked, is_due}
 use Rattle.lapd_tei.specs.Sound.{IsAsRead}
-use Rattle.lapd_tei.specs.Words.{begin_next, check_next, nothing_happens, stop_check}
+use Rattle.lapd_tei.specs.Words.{begin_next, nothing_happens}
 use Rattle.laws_trace.specs.Managing.{others}
 use Rattle.laws_trace.specs.ManagingTerminal.{teis_of, without_tei}
 use Rattle.laws_trace.proofs.ManagingPlaces.{ArePlaced, among, checked-next, left-placed, next-there, none-first, same-teis}
 use Rattle.laws_trace.proofs.ManagingTables.{AreOn, leaves-on}
-use Rattle.std.specs.List.{position}
+use Rattle.laws_trace.proofs.Vocabulary.{arith}
 
 -- A check, as it is seen.
 abbrev pub is_second : Period → Bool
@@ -61,8 +58,7 @@ pub record Known (on : List ℕ) (places : Places) (later : List ℕ) (m : Manag
   pub order : IfSome m.check InOrder
 
 pub known-leads : (on : List ℕ) (places : Places) (later : List ℕ) (x : Course) → Known on places later x.now → Leads (led on places later x) x
-known-leads on places later x k =
-    record { notes = refl; orders = refl; lost = refl; begins = refl; granted = refl; follows = record { is = refl; on = k.on_is; placed = k.placed; order = k.order } }
+known-leads on places later x k = grind arith
 
 abbrev pub is_checked : ℕ → Option Checked → Bool
 is_checked tei o = option_map_or (λ (check : Checked). check.tei == tei) o false
@@ -73,16 +69,10 @@ module _ (on : List ℕ) (places : Places) (later : List ℕ) (x : Course) (k : 
   v = led on places later x
 
   next-is : find (among later) (teis_of places) ≡ next_checked x.now
-  next-is =
-      ap (find (among later)) (same-teis places x.now.places k.placed.same) ∙ next-there (among later) x.now.places
-      ∙ sym (ap (λ bs. tei_at x.now.places (position is_due bs)) k.placed.due)
+  next-is = grind (arith, find, among, same-teis, next-there, is_due)
 
   ends-by : end_check x ≡ begin_next (next_checked x.now) x
-  ends-by = go x.now.reading read
-    where
-      go : (r : Reading) → IsAsRead r x.now.remembered x.now.to_check → by_reading r (stop_check x) (check_next x) ≡ begin_next (next_checked x.now) x
-      go Profile none_due = sym (ap (λ o. begin_next (tei_at x.now.places o) x) (none-first is_due x.now.to_check none_due))
-      go AnnexB empty = refl
+  ends-by = grind (arith, next_checked, none-first, is_due)
 
   abbrev pub after : Option ℕ → Managed
   after o = option_map_or (λ tei. checks tei None (record v { later = others tei later })) o (record v { check = None; orders = Stop T201 ∷ [] })
@@ -144,13 +134,7 @@ module _ (on : List ℕ) (places : Places) (later : List ℕ) (x : Course) (k : 
   leaves-led false tei = goes tei v x here-still
 
   pub leaving-led : (tei : ℕ) → Leads (leaves tei v) (leave tei (rows.end_check_of tei x))
-  leaving-led tei =
-      subst (λ b. Leads (without tei (cond b (over v) v)) (leave tei ((cond (rows.is_checked tei x.now.check) end_check nothing_happens) x))) (sym (seen-so x.now.check))
-      (leaves-led (rows.is_checked tei x.now.check) tei)
-    where
-      seen-so : (o : Option Check) → is_checked tei (option_map seen_check o) ≡ rows.is_checked tei o
-      seen-so None = refl
-      seen-so (Some check) = refl
+  leaving-led tei = grind (arith, over, leaves-led, option_map)
 
   pub leaving-own : (tei : ℕ) → rows.is_checked tei x.now.check ≡ true → Leads (leaves tei v) (leave tei (end_check x))
   leaving-own tei own = subst (λ b. Leads (leaves tei v) (leave tei ((cond b end_check nothing_happens) x))) own (leaving-led tei)
@@ -163,20 +147,7 @@ abbrev pub noted : List Note → Managed → Managed
 noted ns w = record w { notes = ns }
 
 over-noted : (ns : List Note) (w : Managed) → noted ns (over w) ≡ over (noted ns w)
-over-noted ns w = go (find (among w.later) (teis_of w.places))
-  where
-    go : (o : Option ℕ)
-        → noted ns (option_map_or (λ tei. checks tei None (record w { later = others tei w.later })) o (record w { check = None; orders = Stop T201 ∷ [] }))
-        ≡ option_map_or (λ tei. checks tei None (record (noted ns w) { later = others tei w.later })) o (record (noted ns w) { check = None; orders = Stop T201 ∷ [] })
-    go None = refl
-    go (Some tei) = refl
+over-noted ns w = grind (arith, find, among, checks, others, T201)
 
 pub leaves-noted : (ns : List Note) (tei : ℕ) (w : Managed) → noted ns (leaves tei w) ≡ leaves tei (noted ns w)
-leaves-noted ns tei w = go (is_checked tei w.check)
-  where
-    left : Managed → Managed
-    left v = record v { on = others tei w.on; places = without_tei tei w.places; held = filter (λ (r : Remembered). not (r.tei == tei)) w.held; later = others tei v.later }
-
-    go : (b : Bool) → noted ns (left (cond b (over w) w)) ≡ left (cond b (over (noted ns w)) (noted ns w))
-    go true = ap left (over-noted ns w)
-    go false = refl
+leaves-noted ns tei w = grind (arith, others, over, over-noted)

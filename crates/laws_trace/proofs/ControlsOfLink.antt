@@ -71,8 +71,7 @@ module _ (t : Terms) (l : Link) (m : ℕ) (busy rejected : Bool) (n : ℕ) (busy
 
   -- What is heard in place of a frame leads to no enquiry.
   heard-times : (e : Event) → IsNoOther e → Seen e → Timed (as_heard t e)
-  heard-times (received overlong) other h = grind (arith, command_of, now, none-heard)
-  heard-times e other h = grind (arith, command_of, none-heard, none-asked, enquired)
+  heard-times e other h = grind (arith, command_of, now, none-heard, none-asked, enquired)
 
   -- Where a command is due by the timer, T200 runs.
   again : (e : Event) → l.running ≡ Some T200 → waiting.is_time e l ≡ (ticks e == 1)

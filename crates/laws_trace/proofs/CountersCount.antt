@@ -1,9 +1,9 @@
 -- Counters count what is seen: the law.
-use Rattle.laws_trace.proofs.Vocabulary.{◌≡◌, ℕ, ◌==◌, Bool, true, false, cond, List, [], ◌∷◌, ◌++◌, refl, sym, ap, ◌∙◌, append-nil, flat_map, More, Side, Config, shown, answer_shown, Answer, refused, gave, Card, after, moments, arith, told, CardEvent as Event, card_answer as answer, Moment, notes_of, lost_in, trace_frame_in as frame_in}
-use Rattle.std.specs.Prelude.{map, None, Some}
+use Rattle.laws_trace.proofs.Vocabulary.{◌≡◌, ℕ, ◌==◌, Bool, cond, List, [], ◌∷◌, ◌++◌, refl, ap, ◌∙◌, append-nil, flat_map, More, Side, Config, shown, answer_shown, Answer, Card, after, moments, arith, CardEvent as Event, card_answer as answer, Moment, notes_of, lost_in, trace_frame_in as frame_in}
+use Rattle.std.specs.Prelude.{map}
 use Rattle.std.specs.Option.{option_map_or}
 use Rattle.lapd_count.specs.declared.counter.Counter.TheVariants.{Dropped}
-use Rattle.lapd_count.specs.Shown.{heard_shown, begun_shown, note_shown, lost_shown}
+use Rattle.lapd_count.specs.Shown.{begun_shown, note_shown, lost_shown}
 use Rattle.model_card.specs.Counted.{all_shown}
 use Rattle.model_line.specs.Event as line_event
 use Rattle.model_line.specs.Laws.{cause_in}
@@ -16,21 +16,14 @@ answer_names side a =
     ++ option_map_or (λ cause. (Dropped cause, 1) ∷ []) (cause_in a) [] ++ lost_shown (lost_in a)
 
 of-answer : (side : Side) (a : Answer) → answer_shown side a ≡ answer_names side a
-of-answer side (told t) = refl
-of-answer side (refused why) = refl
-of-answer side (gave None) = refl
-of-answer side (gave (Some next)) = grind (arith, append-nil)
+of-answer side a = grind (arith, append-nil)
 
 of-event : (c : Config) (e : line_event.Event) (a : Answer) → shown c e a ≡ names c.side e a
-of-event c (line_event.hears e) a = ap (λ xs. heard_shown c.side (Some e) ++ xs) (of-answer c.side a) ∙ ap (λ xs. xs ++ answer_names c.side a) (sym (append-nil (heard_shown c.side (Some e))))
-of-event c (line_event.expiry timer) a = of-answer c.side a
-of-event c (line_event.request r) a = of-answer c.side a
-of-event c line_event.next a = of-answer c.side a
+of-event c e a = grind (arith, of-answer, append-nil)
 
 -- At a line, and nothing at another;
 there : (c : Config) (e : line_event.Event) (a : Answer) (b : Bool) → cond b (shown c e a) [] ≡ cond b (names c.side e a) []
-there c e a true = of-event c e a
-there c e a false = refl
+there c e a b = grind (arith, of-event)
 
 -- and so in all moments of a run.
 abbrev named_in : Side → ℕ → Moment → List More

@@ -6,8 +6,6 @@ use Rattle.laws_trace.proofs.Vocabulary.{IdentityDenied, IdentityRemove, heard_o
 use Rattle.laws_trace.proofs.Vocabulary.{begin_check, end_check, leave, lose_one, no_room, send, unserved, false_from_ne_true}
 use Rattle.lapd_tei.specs.Rows as rows
 use Rattle.lapd_frame.specs.Readings.{by_reading}
-use Rattle.lapd_frame.specs.declared.readings.Reading.{Reading}
-use Rattle.lapd_frame.specs.declared.readings.Reading.TheVariants.{Profile, AnnexB}
 use Rattle.lapd_tei.specs.declared.messages.Message.TheVariants.{IdentityCheckRequest}
 use Rattle.lapd_tei.specs.Messages.{is_extended}
 use Rattle.lapd_tei.specs.Sound.{IsSound}
@@ -37,9 +35,6 @@ module _ (on : List ℕ) (places : Places) (h : AreOn on places) (n : ℕ) (size
 module _ (on : List ℕ) (places : Places) (later : List ℕ) (m : Management) (h : AreOn on m.places) (p : ArePlaced places later m.places m.to_check) (order : IfSome m.check InOrder) (s : IsSound m) where
   abbrev w : Managed
   w = as_seen on places later m
-
-  known-now : Known on places later m
-  known-now = record { on_is = h; placed = p; order = order }
 
   pub here : Follows w m
   here = record { is = refl; on = h; placed = p; order = order }
@@ -177,9 +172,7 @@ module _ (on : List ℕ) (places : Places) (later : List ℕ) (m : Management) (
       longer tei = m.remembered ++ record { ri = ri; tei = tei } ∷ []
 
       held-is : (tei : ℕ) → by_reading m.reading (drop (length (longer tei) - 4) (longer tei)) m.remembered ≡ by_reading c.reading (drop (length m.remembered - 3) (longer tei)) m.remembered
-      held-is tei =
-          ap (λ n. by_reading m.reading (drop n (longer tei)) m.remembered) (omega (arith, (length-append m.remembered (record { ri = ri; tei = tei } ∷ []))))
-          ∙ ap (λ r. by_reading r (drop (length m.remembered - 3) (longer tei)) m.remembered) read
+      held-is tei = grind (arith, length-append)
 
       comes-new : (place tei : ℕ) → free_place m.places ≡ Some place → table.free_tei m.places ≡ Some tei → Leads (gives c ri None (Some tei) w) (rows.assign_new ri (Some place) (Some tei) (begun m))
       comes-new place tei free is =
@@ -204,13 +197,10 @@ module _ (on : List ℕ) (places : Places) (later : List ℕ) (m : Management) (
 
       -- and where there is none
       lose : (message : Message) → no_room m.waiting ≡ true → Leads (owes message w) (lose_one (begun m))
-      lose message full =
-          subst (λ b. Leads (record w { owed = cond b m.waiting (m.waiting ++ message ∷ []); lost = cond b 1 0 }) (lose_one (begun m))) (sym full) (known-leads on places later (lose_one (begun m)) (record { on_is = h; placed = p; order = order }))
+      lose message full = grind (arith, known-leads)
 
       loses : (o : Option Remembered) (b : Bool) → no_room m.waiting ≡ true → Leads (gives c ri o (cond (b && false) lowest None) w) (lose_one (begun m))
-      loses None true full = lose (IdentityDenied ri 127) full
-      loses None false full = lose (IdentityDenied ri 127) full
-      loses (Some r) b full = lose (IdentityAssigned ri r.tei) full
+      loses o b full = grind (arith, lose)
 
       answers-request : Leads (asks c ri w) (rows.answer_request ri (begun m))
       answers-request = go (no_room m.waiting) refl
@@ -234,8 +224,7 @@ module _ (on : List ℕ) (places : Places) (later : List ℕ) (m : Management) (
           same-given message = grind arith
 
       denied-leads : (tei : ℕ) → Answers (by_reading c.reading None (Some (owes (IdentityDenied ri tei) w))) (rows.request_of ri tei (begun m))
-      denied-leads tei =
-          in-both Answers m.reading c.reading read None (Some (owes (IdentityDenied ri tei) w)) (unserved (begun m)) (send (IdentityDenied ri tei) (begun m)) none-due (plain (IdentityDenied ri tei))
+      denied-leads tei = grind (arith, in-both, owes, unserved, send, none-due, plain)
 
     -- It asks for a check.
     defers-leads : (tei : ℕ) → table.is_on tei m.places ≡ true → Leads (defers tei w) (check_is_due tei (rows.ask_once tei (begun m)))
@@ -257,68 +246,29 @@ module _ (on : List ℕ) (places : Places) (later : List ℕ) (m : Management) (
     Serves d x = Leads (unwrap_or d w) x
 
     verify-leads : (tei : ℕ) → Serves (verified c tei w) (rows.verify tei (begun m))
-    verify-leads tei =
-        subst (λ b. Serves (cond (not b) None beside) (rows.verify tei (begun m))) (sym (h.same tei)) (go (table.is_on tei m.places) refl)
-      where
-        beside : Option Managed
-        beside = option_map_or (λ (check : Checked). cond (check.tei == tei) None (by_reading c.reading None (Some (defers tei w)))) w.check (Some (checks tei None w))
-
-        by-check : (o : Option Check) → table.is_on tei m.places ≡ true
-            → Serves (option_map_or (λ (check : Checked). cond (check.tei == tei) None (by_reading c.reading None (Some (defers tei w)))) (option_map seen_check o) (Some (checks tei None w))) (rows.verify_beside tei o (begun m))
-        by-check None there = begins-check tei
-        by-check (Some check) there =
-            by-both (λ d f. Serves d (f (begun m))) (check.tei == tei) None (by_reading c.reading None (Some (defers tei w))) unserved (rows.verify_later tei) none-due
-            (in-both Serves m.reading c.reading read None (Some (defers tei w)) (unserved (begun m)) (check_is_due tei (rows.ask_once tei (begun m))) none-due (defers-leads tei there))
-
-        go : (b : Bool) → table.is_on tei m.places ≡ b → Serves (cond (not b) None beside) ((cond b (rows.verify_beside tei m.check) unserved) (begun m))
-        go false off = none-due
-        go true there = by-check m.check there
+    verify-leads tei = grind (arith, checks, option_map, there, begins-check, by-both, unserved, none-due, in-both, defers-leads)
 
     responds-leads : (tei : ℕ) → Serves (option_and_then (responded tei w) w.check) (rows.respond tei m.check (begun m))
-    responds-leads tei = go m.check refl
-      where
-        go : (o : Option Check) → m.check ≡ o → Serves (option_and_then (responded tei w) (option_map seen_check o)) (rows.respond tei o (begun m))
-        go None is = none-due
-        go (Some check) is = responds-so tei check is
+    responds-leads tei = grind (arith, responded, option_map, none-due, responds-so)
 
     -- One may answer for several.
     none-several : (teis : Option (List ℕ)) (o : Option Check) → teis ≡ None → rows.respond_among teis o (begun m) ≡ unserved (begun m)
-    none-several teis None none = refl
-    none-several teis (Some check) none = ap (λ (teis : Option (List ℕ)). (cond (rows.is_among check.tei teis) (rows.count check.tei (rows.counted check)) unserved) (begun m)) none
+    none-several teis o none = grind (arith, rows.count, rows.counted, unserved)
 
     not-several : Serves None (by_reading m.reading (unserved (begun m)) (rows.respond_among None m.check (begun m)))
-    not-several = go m.reading
-      where
-        go : (r : Reading) → Serves None (by_reading r (unserved (begun m)) (rows.respond_among None m.check (begun m)))
-        go Profile = none-due
-        go AnnexB = subst (λ x. Serves None x) (sym (none-several None m.check refl)) none-due
-
-    abbrev read_so : List ℕ → Bool
-    read_so octets = nat_le 2 (length octets) && nat_le (length octets) 64 && ends_once octets
+    not-several = grind (arith, unserved, none-due, none-several)
 
     ends-same : (octets : List ℕ) → ends_once octets ≡ is_extended octets
     ends-same octets = ends-so octets
 
     by-several : (octets : List ℕ) (o : Option Check) → m.check ≡ o
         → Serves (option_and_then (λ (check : Checked). cond (list_any (λ octet. octet / 2 == check.tei) octets) (responded check.tei w check) None) (option_map seen_check o)) (rows.respond_among (Some octets) o (begun m))
-    by-several octets None is = none-due
-    by-several octets (Some check) is =
-        by-both (λ d f. Serves d (f (begun m))) (list_any (λ octet. octet / 2 == check.tei) octets) (responded check.tei w (seen_check check)) None (rows.count check.tei (rows.counted check)) unserved
-        (subst (λ b. Serves (responded check.tei w (seen_check check)) ((cond b (rows.count check.tei (rows.counted check)) unserved) (begun m))) (eq-eqb check.tei check.tei refl) (responds-so check.tei check is)) none-due
+    by-several octets o is = grind (arith, none-due, by-both, responded, rows.count, rows.counted, unserved, eq-eqb, responds-so)
 
     several-leads : (octets : List ℕ) (a b : Bool)
         → Serves (cond (a && b) (by_reading c.reading None (several w octets)) None)
         (by_reading m.reading (unserved (begun m)) (rows.respond_among (cond (a && b && nat_le 2 (length octets) && nat_le (length octets) 64 && is_extended octets) (Some octets) None) m.check (begun m)))
-    several-leads octets true true =
-        in-both Serves m.reading c.reading read None (several w octets) (unserved (begun m)) _ none-due
-        (subst (λ b. Serves (several w octets) (rows.respond_among (cond (nat_le 2 (length octets) && nat_le (length octets) 64 && b) (Some octets) None) m.check (begun m))) (ends-same octets) (go (read_so octets)))
-      where
-        go : (b : Bool) → Serves (cond (not b) None (option_and_then (λ (check : Checked). cond (list_any (λ octet. octet / 2 == check.tei) octets) (responded check.tei w check) None) w.check))
-            (rows.respond_among (cond b (Some octets) None) m.check (begun m))
-        go true = by-several octets m.check refl
-        go false = subst (λ x. Serves None x) (sym (none-several None m.check refl)) none-due
-    several-leads octets true false = not-several
-    several-leads octets false b = not-several
+    several-leads octets a b = grind (arith, in-both, unserved, none-due, nat_le, ends-same, responded, by-several, none-several, not-several)
 
     -- What a terminal says.
     by-type-leads : (type ri action : ℕ) → Serves (seen_of c type ri action w) (rows.serve (heard_of_type type ri action) None (begun m))

@@ -1,18 +1,15 @@
 -- What is due of TEI management by one event of a line of the network's side, or of a trunk's end, is what its answer shows, and
 -- the observer follows it.
-use Rattle.laws_trace.proofs.Vocabulary.{◌≡◌, ℕ, true, false, cond, List, [], ◌∷◌, ◌++◌, map, take, drop, filter, Option, Some, None, IfSome, refl, sym, ap, ◌∙◌, subst, append-nil, true≢false, inl, inr, option_map_or, filter-append, Timer, Places, Management, Message, Config, Aim, at_management, of_aim, hears, expiry, next, Line}
-use Rattle.laws_trace.proofs.Vocabulary.{aim_of_heard, Taken, taken, line_of, heard_aims, IsOwed, IsIdle, contents_of_link, served, TimerT200 as T200, TimerT203 as T203, T201, message_frame as frame_of, information_of, Event, told, line_after as after, answer, IsSound, Managed, managing_by_event as by_event, is_of_teis, received, StreamEvent, tei_message, TeiEvent}
-use Rattle.laws_trace.proofs.Vocabulary.{tei_refusal, tei_course, tei_told, tei_after, told_of_management}
+use Rattle.laws_trace.proofs.Vocabulary.{◌≡◌, ℕ, true, false, cond, List, [], ◌∷◌, map, take, drop, Option, Some, None, IfSome, refl, sym, ap, ◌∙◌, subst, append-nil, true≢false, inl, inr, option_map_or, filter-append, Timer, Places, Management, Message, Config, Aim, at_management, of_aim, hears, expiry, next, Line}
+use Rattle.laws_trace.proofs.Vocabulary.{aim_of_heard, Taken, taken, line_of, heard_aims, IsOwed, IsIdle, contents_of_link, served, TimerT200 as T200, TimerT203 as T203, T201, message_frame as frame_of, information_of, Event, told, line_after as after, answer, IsSound, Managed, managing_by_event as by_event, received, StreamEvent, tei_message, TeiEvent}
+use Rattle.laws_trace.proofs.Vocabulary.{tei_refusal, tei_course}
 use Rattle.lapd_frame.specs.declared.timers.Timer.TheVariants.{T202}
-use Rattle.lapd_tei.specs.declared.messages.Message.TheVariants.{IdentityAssigned, IdentityDenied, IdentityCheckRequest, IdentityRemove}
 use Rattle.lapd_terminal.specs.Events as terminals
-use Rattle.model_line.specs.Effect.{Effect, at_a_terminal, of_network, of_terminal, of_terminal_if, told_of_terminal}
-use Rattle.model_line.specs.Sound.{IsOfSide}
+use Rattle.model_line.specs.Effect.{at_a_terminal, of_network, of_terminal, of_terminal_if}
 use Rattle.model_link.specs.declared.timers.LinkTimer.TheVariants as link_timer
-use Rattle.lapd_terminal.specs.Words.{Course}
-use Rattle.laws_trace.proofs.Vocabulary.{aim_of, of_change}
+use Rattle.laws_trace.proofs.Vocabulary.{aim_of}
 use Rattle.lapd_tei.specs.Events.{expiry as tei_expiry}
-use Rattle.model_line.specs.Line.{is_terminal, Own, with_terminal}
+use Rattle.model_line.specs.Line.{is_terminal, Own}
 use Rattle.model_line.proofs.Managed.{idle_course}
 use Rattle.laws_trace.specs.Managing.{octets_of}
 use Rattle.laws_trace.specs.TeisAreManaged.{message_text}
@@ -20,16 +17,14 @@ use Rattle.laws_trace.proofs.CheckEnds.{Follows, Leads, InOrder, as_seen}
 use Rattle.laws_trace.proofs.Follows.{serve-leads, expire-leads}
 use Rattle.laws_trace.proofs.ManagingPlaces.{ArePlaced}
 use Rattle.laws_trace.proofs.ManagingTables.{AreOn}
-use Rattle.laws_trace.proofs.ManagingNotes.{by_message, none-of-teis, Cases, is_management, message_in, message-is-read, heard-cases, Behind, behind}
+use Rattle.laws_trace.proofs.ManagingNotes.{by_message, none-of-teis, Cases, is_management, message_in, message-is-read, heard-cases, behind}
 use Rattle.laws_trace.proofs.ReadAgain.{message-text}
 use Rattle.laws_trace.proofs.Tracked.{OfSide, Tracks, Shows, IsQuiet, IsUnmanaged, none-granted, none-aims, link-aims, unmanaged-shows, timer-shows, is_managed, managed_of, one-or-none, first-goes, message-is, unit-is, link-is, next-shows}
+use Rattle.laws_trace.proofs.Vocabulary.{arith}
 
 -- A message goes in the octets that are due.
 same-octets : (m : Message) → information_of m ≡ octets_of m
-same-octets (IdentityAssigned ri tei) = refl
-same-octets (IdentityDenied ri tei) = refl
-same-octets (IdentityCheckRequest tei) = refl
-same-octets (IdentityRemove tei) = refl
+same-octets m = grind arith
 
 same-text : (c : Config) (m : Message) → frame_of c.side m ≡ message_text c (octets_of m)
 same-text c m = message-text c m ∙ ap (message_text c) (same-octets m)
@@ -52,22 +47,7 @@ module _ (c : Config) (l : Line) (s : IsSound c l) (net : is_terminal c ≡ fals
 
   -- An event of TEI management.
   network-shows : (e : Event) (d : Managed) (me : TeiEvent) → Leads d (tei_course me m) → let y = of_network c me l in Shows c l e d (told y.told) y.line
-  network-shows e d me leads =
-      let t = tei_told me m in
-      let y = of_network c me l in
-      let x : Behind c (told_of_management t) (record l { management = tei_after me m }) t.change = behind c (told_of_management t) (record l { management = tei_after me m }) t.change in
-      record {
-        as_due = record {
-          notes =
-              ap (filter is_of_teis) x.notes ∙ filter-append is_of_teis t.notes x.others ∙ ap (λ ns. filter is_of_teis t.notes ++ ns) (none-of-teis x.others x.are) ∙ append-nil (filter is_of_teis t.notes)
-              ∙ leads.notes;
-          orders = x.orders ∙ leads.orders;
-          begins = sym (ap (map (message_text c)) leads.begins);
-          granted = none-granted d leads.granted true;
-        };
-        lost = inl (x.lost ∙ leads.lost);
-        follows = subst (λ m. Tracks c d m y.line.own) (sym x.stays) (tracked d (tei_after me m) y.line.own leads.follows);
-      }
+  network-shows e d me leads = grind (arith, of_network, behind, filter-append, none-of-teis, append-nil, none-granted, tracked)
 
   pub managed-shows : (e : Event) (d : Managed) (me : TeiEvent) → Leads d (tei_course me m) → let y = of_aim c (at_management me) l in Shows c l e d (told y.told) y.line
   managed-shows e d me leads =
@@ -95,19 +75,10 @@ module _ (c : Config) (l : Line) (s : IsSound c l) (net : is_terminal c ≡ fals
 
   pub hears-shows : (e : StreamEvent) → Shows c l (hears e) (by_event c (hears e) w) (answer c (hears e) l) (after c (hears e) l)
   unfolding after answer
-  hears-shows e =
-      let y = of_aim c (aim_of_heard c l e) l in
-      subst (λ d. Shows c l (hears e) d (told y.told) y.line) (sym (message-is-read c w e net)) (by-cases e (heard-cases c l e))
-
-  -- An expiry. T202 does not run.
-  abbrev effect_of : Course → Effect
-  effect_of x = of_change c x.told.change (told_of_terminal x.told) (with_terminal x.now l)
+  hears-shows e = grind (arith, hears, told, message-is-read, by-cases, heard-cases)
 
   t202-shows : let y = of_terminal c terminals.expiry l in Shows c l (expiry T202) w (told y.told) y.line
-  t202-shows =
-      let none = subst (λ b. IsOfSide b l.management l.own) net s.own in
-      subst (λ (x : Course). let y = effect_of x in Shows c l (expiry T202) w (told y.told) y.line) (sym (idle_course c l s none.0))
-      (record { as_due = record { notes = refl; orders = refl; begins = refl; granted = none-granted w refl true }; lost = inl refl; follows = here })
+  t202-shows = grind (arith, told, idle_course, none-granted, here)
 
   pub expiry-shows : (timer : Timer) → Shows c l (expiry timer) (by_event c (expiry timer) w) (answer c (expiry timer) l) (after c (expiry timer) l)
   unfolding after answer tei_course tei_refusal
@@ -127,9 +98,7 @@ module _ (c : Config) (l : Line) (s : IsSound c l) (net : is_terminal c ≡ fals
   Goes new o = (managed_of c o ≡ due_texts) × Tracks c later new.management new.own
 
   stays : (new : Line) → new.management ≡ m → m.waiting ≡ [] → Tracks c later new.management new.own
-  stays new is none =
-      tracked later new.management new.own
-      (subst (Follows later) (sym is) (subst (λ ms. Follows (record w { owed = ms; begins = map octets_of (take 1 m.waiting) }) m) (sym (ap (drop 1) none ∙ sym none)) (record { is = refl; on = h; placed = p; order = order })))
+  stays new is none = grind (arith, tracked)
 
   none-goes : m.waiting ≡ [] → [] ≡ due_texts
   none-goes none = sym (ap (λ ms. map (message_text c) (map octets_of (take 1 ms))) none)

@@ -5,7 +5,6 @@ use Rattle.laws_trace.proofs.Vocabulary.{unless_refused}
 use Rattle.laws_trace.proofs.Vocabulary.{unless_refused_told, bad_tei, no_link, tei_taken, bad_tei_or_all, tei_in_use, table_full, check_running, control_full, Assign, Remove, Disown, tei_disown, Deactivate, aim_of_request, passed, Down, at_no_link, filter, option_map, Stop, T201, ltb-true, ltb-false, tei_begun as begun, Event, told, line_after as after, answer, Establish, Release, true≢false}
 use Rattle.laws_trace.proofs.Vocabulary.{refusal, Request, Checking, SetBusy, ClearBusy, IsSound, Managed, owes, checks, may_check, grants, manages, managing_by_event as by_event, is_of_line, by-down, stop_of, Check, false_from_ne_true, LinkSetBusy, LinkClearBusy, tei_check, tei_unless_refused, tei_course, tei_remove, tei_refusal_if, TeiEvent, tei_refusal, tei_assign, tei_step}
 use Rattle.lapd_frame.specs.declared.addresses.Side.{Side}
-use Rattle.lapd_frame.specs.declared.addresses.Side.TheVariants.{User, Network}
 use Rattle.model_line.specs.Line.{is_terminal}
 use Rattle.model_line.specs.Line.{Own}
 use Rattle.model_line.specs.Refusal.{wrong_side, not_network, not_terminal, procedure_running}
@@ -25,8 +24,7 @@ use Rattle.laws_trace.proofs.Tracked.{OfSide, Tracks, Shows}
 use Rattle.laws_trace.proofs.TrackedRequests.{asked-shows, deactivated-shows, units-shows}
 
 network-is : (side : Side) → is_network side ≡ manages side
-network-is Network = refl
-network-is User = refl
+network-is side = grind arith
 
 -- The rows that refuse a request of management.
 module _ (c : Config) (l : Line) (s : IsSound c l) (net : is_terminal c ≡ false) (on : List ℕ) (seen : Places) (dues : List ℕ) (h : AreOn on l.management.places) (p : ArePlaced seen dues l.management.places l.management.to_check) (order : IfSome l.management.check InOrder) where
@@ -37,10 +35,7 @@ module _ (c : Config) (l : Line) (s : IsSound c l) (net : is_terminal c ≡ fals
   w = as_seen on seen dues m
 
   alone : has_management c ≡ manages c.side
-  alone = ap (λ b. is_network c.side || b) net ∙ no-other (is_network c.side) ∙ network-is c.side
-    where
-      no-other : (b : Bool) → (b || false) ≡ b
-      no-other b = grind arith
+  alone = grind (arith, network-is)
 
   -- A request.
   abbrev Answers : Request → Managed → Option Refusal → Type 0
@@ -164,9 +159,7 @@ module _ (c : Config) (l : Line) (s : IsSound c l) (net : is_terminal c ≡ fals
   ask-shows = by-grant AskTei w false (grind (arith, not-here)) (λ none. absurd (true≢false (sym (not-here (is_terminal c) net) ∙ (passed (not_terminal c) (table_full l ∷ procedure_running l ∷ []) none).0)))
 
   verify-shows : (tei : ℕ) → Answers (VerifyTei tei) (by_event c (request (VerifyTei tei)) w) (refusal c false (VerifyTei tei) l)
-  verify-shows tei =
-      by-grant (VerifyTei tei) w false (grind (arith, not-here))
-      (λ none. absurd (true≢false (sym (not-here (is_terminal c) net) ∙ (passed (not_terminal c) (bad_tei tei ∷ no_link tei l ∷ procedure_running l ∷ []) none).0)))
+  verify-shows tei = grind (arith, by-grant, not-here, true≢false, passed, no_link)
 
   -- That the line is down.
   stopped : (o : Option Check) → filter is_of_line (stop_of o) ≡ cond (is_some (option_map seen_check o)) (Stop T201 ∷ []) []

@@ -40,27 +40,16 @@ over-is : (x : Course) → seen.over (shown x) ≡ shown (end_procedure x)
 over-is x = ap (λ owed. record (shown x) { procedure = None; owed = owed; orders = Stop T202 ∷ [] }) (filter-same seen.is_response words.is_response response-same x.now.waiting)
 
 verified-is : (tei : ℕ) (x : Course) → seen.verified tei (shown x) ≡ shown (end_verifying_of tei x)
-verified-is tei x = ap (λ b. cond b (seen.over (shown x)) (shown x)) (verified-same tei x.now.procedure) ∙ go (words.is_verified tei x.now.procedure)
-  where
-    go : (b : Bool) → cond b (seen.over (shown x)) (shown x) ≡ shown ((cond b end_procedure nothing_happens) x)
-    go true = over-is x
-    go false = refl
+verified-is tei x = grind (arith, seen.over, verified-same, over-is)
 
 abbrev without : ℕ → OfTerminal → OfTerminal
 without tei t = record t { places = seen.without_tei tei t.places; owed = filter (λ message. not (seen.is_response_for tei message)) t.owed }
 
 without-is : (tei : ℕ) (x : Course) → IsOnce tei x.now.places → without tei (shown x) ≡ shown (words.leave tei x)
-without-is tei x once =
-    ap (λ places. record (shown x) { places = places; owed = filter (λ message. not (seen.is_response_for tei message)) x.now.waiting }) (leaves-same tei x.now.places once)
-    ∙ ap (λ owed. record (shown (words.leave tei x)) { owed = owed })
-    (filter-same (λ message. not (seen.is_response_for tei message)) (words.is_other tei) (λ message. ap not (response-for-same tei message)) x.now.waiting)
+without-is tei x once = grind (arith, leaves-same, filter-same, words.is_other, response-for-same)
 
 ended-once : (tei : ℕ) (x : Course) → IsOnce tei x.now.places → IsOnce tei (end_verifying_of tei x).now.places
-ended-once tei x once = go (words.is_verified tei x.now.procedure)
-  where
-    go : (b : Bool) → IsOnce tei ((cond b end_procedure nothing_happens) x).now.places
-    go true = once
-    go false = once
+ended-once tei x once = grind arith
 
 pub leaves-is : (tei : ℕ) (x : Course) → IsOnce tei x.now.places → seen.leaves tei (shown x) ≡ shown (rows.take_off tei x)
 leaves-is tei x once = ap (without tei) (verified-is tei x) ∙ without-is tei (end_verifying_of tei x) (ended-once tei x once)
@@ -75,13 +64,7 @@ pub verifies-is : (tei attempts : ℕ) (x : Course) → seen.verifies tei attemp
 verifies-is tei attempts x = ap (λ owed. record (shown (words.verify tei attempts x)) { owed = owed }) (verify-same tei x.now.waiting)
 
 responds-is : (tei : ℕ) (x : Course) → seen.responds (shown x) tei ≡ shown (words.respond tei x)
-responds-is tei x =
-    ap (λ b. cond b (shown x) (shown (words.send_response tei x))) (any-same (seen.is_response_for tei) (words.is_response_of tei) (response-for-same tei) x.now.waiting)
-    ∙ go (list_any (words.is_response_of tei) x.now.waiting)
-  where
-    go : (b : Bool) → cond b (shown x) (shown (words.send_response tei x)) ≡ shown ((cond b nothing_happens (words.send_response tei)) x)
-    go true = refl
-    go false = refl
+responds-is tei x = grind (arith, any-same, response-for-same)
 
 abbrev answered : OfTerminal → ℕ → OfTerminal
 answered k tei = seen.responds (seen.verified tei k) tei
@@ -95,18 +78,7 @@ answers-are (tei ∷ teis) x = ap (λ k. fold answered k teis) (answer-is tei x)
 
 -- An answer is served.
 answer-served : (tei : ℕ) (x : Course) → x.told.unserved ≡ false → (rows.answer tei x).told.unserved ≡ false
-answer-served tei x h = responded (end_verifying_of tei x) (ended (words.is_verified tei x.now.procedure))
-  where
-    ended : (b : Bool) → ((cond b end_procedure nothing_happens) x).told.unserved ≡ false
-    ended true = h
-    ended false = h
-
-    responded : (y : Course) → y.told.unserved ≡ false → (words.respond tei y).told.unserved ≡ false
-    responded y served = go (words.is_answered tei y.now)
-      where
-        go : (b : Bool) → ((cond b nothing_happens (words.send_response tei)) y).told.unserved ≡ false
-        go true = served
-        go false = served
+answer-served tei x h = grind arith
 
 answers-served : (teis : List ℕ) (x : Course) → x.told.unserved ≡ false → (fold rows.answered x teis).told.unserved ≡ false
 answers-served [] x h = h
@@ -124,11 +96,7 @@ module _ (t : Terminal) (once : (tei : ℕ) → IsOnce tei t.places) where
       ∙ sym (ap (λ b. cond b None (Some (shown (fold rows.answered (begun t) (tei ∷ teis))))) (answers-served (tei ∷ teis) (begun t) refl))
 
   is-served : (tei : ℕ) → (rows.removed tei (begun t)).told.unserved ≡ false
-  is-served tei = go (words.is_verified tei t.procedure)
-    where
-      go : (b : Bool) → (words.leave tei ((cond b end_procedure nothing_happens) (begun t))).told.unserved ≡ false
-      go true = refl
-      go false = refl
+  is-served tei = grind (arith, begun)
 
   remove-is : (teis : List ℕ) → seen.by_remove teis k ≡ served (rows.removed_each teis (begun t))
   remove-is [] = refl
@@ -149,23 +117,14 @@ module _ (t : Terminal) (once : (tei : ℕ) → IsOnce tei t.places) where
 
   takes-if : (tei : ℕ) (may : Bool) (o : Option ℕ) → free_place t.places ≡ o
       → cond (may && is_some o) (Some (got tei)) None ≡ served ((cond may (rows.take_at tei o) unserved) (begun t))
-  takes-if tei false o free = refl
-  takes-if tei true None free = refl
-  takes-if tei true (Some place) free = ap Some (got-is tei place free)
+  takes-if tei may o free = grind (arith, got-is)
 
   own-if : (tei : ℕ) (same : Bool)
       → cond (same && (rows.is_assignable tei t.places && is_some (free_place t.places))) (Some (got tei)) None ≡ served ((cond same (rows.take_tei tei) unserved) (begun t))
-  own-if tei false = refl
-  own-if tei true = takes-if tei (rows.is_assignable tei t.places) (free_place t.places) refl
+  own-if tei same = grind (arith, takes-if)
 
   may-come : (tei : ℕ) → (nat_le 64 tei && nat_le tei 126 && not (seen.is_on tei k) && list_any seen.is_free k.places) ≡ (rows.is_assignable tei t.places && is_some (free_place t.places))
-  may-come tei =
-      ap (λ b. nat_le 64 tei && nat_le tei 126 && not b && list_any seen.is_free t.places) (on-same tei t.places)
-      ∙ ap (λ b. nat_le 64 tei && nat_le tei 126 && not (table.is_on tei t.places) && b) (free-same t.places)
-      ∙ all-four (nat_le 64 tei) (nat_le tei 126) (not (table.is_on tei t.places)) (is_some (free_place t.places))
-    where
-      all-four : (a b d e : Bool) → (a && b && d && e) ≡ ((a && b && d) && e)
-      all-four a b d e = grind arith
+  may-come tei = grind (arith, nat_le, seen.is_free, on-same, free-same, is_some)
 
   assigned-is : (ri tei : ℕ) (o : Option Procedure) → seen.by_assigned ri tei o k ≡ served (rows.assigned ri tei o (begun t))
   assigned-is ri tei None = ap (λ b. cond b (Some (seen.verifies tei 1 k)) None) (on-same tei t.places) ∙ go (table.is_on tei t.places)
@@ -188,12 +147,10 @@ module _ (t : Terminal) (once : (tei : ℕ) → IsOnce tei t.places) where
 
   -- any message
   by-both : {X Y : Type 0} (P : X → Y → Type 0) (b : Bool) (u v : X) (x y : Y) → P u x → P v y → P (cond b u v) (cond b x y)
-  by-both P true u v x y h j = h
-  by-both P false u v x y h j = j
+  by-both P b u v x y h j = grind arith
 
   otherwise : {X Y : Type 0} (P : X → Y → Type 0) (b : Bool) (u v : X) (x y : Y) → P u x → P v y → P (cond (not b) v u) (cond b x y)
-  otherwise P true u v x y h j = h
-  otherwise P false u v x y h j = j
+  otherwise P b u v x y h j = grind arith
 
   abbrev of_type : ℕ → ℕ → ℕ → Option OfTerminal
   of_type type ri action =
@@ -202,13 +159,7 @@ module _ (t : Terminal) (once : (tei : ℕ) → IsOnce tei t.places) where
       (cond (type == 4) (seen.by_check (seen.named action k) k) (cond (type == 6) (seen.by_remove (seen.named action k) k) None)))
 
   by-type : (type ri action : ℕ) → of_type type ri action ≡ served (rows.serve (heard_of_type type ri action) (begun t))
-  by-type type ri action =
-      by-both (λ d o. d ≡ served (rows.serve o (begun t))) (type == 2) _ _ _ _ (assigned-is ri action t.procedure)
-      (by-both (λ d o. d ≡ served (rows.serve o (begun t))) (type == 3 && action == 127) _ _ _ _ (denied-is ri t.procedure)
-      (by-both (λ d o. d ≡ served (rows.serve o (begun t))) (type == 4) _ _ _ _
-      (ap (λ teis. seen.by_check teis k) (named-is action) ∙ check-is (table.named action t.places))
-      (by-both (λ d o. d ≡ served (rows.serve o (begun t))) (type == 6) _ _ _ _
-      (ap (λ teis. seen.by_remove teis k) (named-is action) ∙ remove-is (table.named action t.places)) refl)))
+  by-type type ri action = grind (arith, by-both, begun, assigned-is, denied-is, named-is, check-is, table.named, remove-is)
 
   pub message-is : (info : List ℕ) → seen.by_message info k ≡ served (rows.serve (heard_in info) (begun t))
   message-is [] = refl

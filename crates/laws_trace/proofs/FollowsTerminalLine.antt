@@ -1,26 +1,23 @@
 -- What is due of TEI management by one event of a terminal's line is what its answer shows, and the observer follows it.
-use Rattle.laws_trace.proofs.Vocabulary.{◌≡◌, ℕ, Bool, true, false, cond, List, [], ◌∷◌, ◌++◌, map, take, drop, slice_get, filter, Option, Some, None, option_map, refl, sym, ap, ◌∙◌, subst, append-nil, true≢false, inl, inr, option_map_or, none-some, filter-append, Timer, Management, Config, Aim, at_management, of_aim, of_change, hears, expiry, next, Line}
+use Rattle.laws_trace.proofs.Vocabulary.{◌≡◌, ℕ, Bool, true, false, cond, List, [], ◌++◌, map, take, drop, slice_get, filter, Option, Some, None, option_map, refl, sym, ap, ◌∙◌, subst, append-nil, true≢false, inl, inr, option_map_or, none-some, filter-append, Timer, Management, Config, Aim, at_management, of_aim, hears, expiry, next, Line}
 use Rattle.laws_trace.proofs.Vocabulary.{aim_of_heard, Taken, taken, line_of, heard_aims, IsOwed, IsIdle, contents_of_link, served, TimerT200 as T200, TimerT203 as T203, T201, Event, told, line_after as after, answer, IsSound, Managed, is_of_teis, is_of_line, received, StreamEvent, tei_message}
 use Rattle.std.specs.Prelude.{option_to_list}
 use Rattle.std.specs.Option.{option_and_then}
 use Rattle.lapd_frame.specs.declared.timers.Timer.TheVariants.{T202}
 use Rattle.lapd_tei.specs.Events as teis
 use Rattle.lapd_terminal.specs.declared.messages.Message.{Message}
-use Rattle.lapd_terminal.specs.declared.messages.Message.TheVariants.{IdentityRequest, IdentityCheckResponse, IdentityVerify}
 use Rattle.lapd_terminal.specs.declared.outcome.News.{News}
-use Rattle.lapd_terminal.specs.declared.outcome.News.TheVariants as news
 use Rattle.lapd_terminal.specs.declared.outcome.T202Order.{T202Order}
-use Rattle.lapd_terminal.specs.declared.outcome.T202Order.TheVariants as t202
 use Rattle.lapd_terminal.specs.Events as terminals
 use Rattle.lapd_terminal.specs.Events.{Event as TerminalEvent}
 use Rattle.lapd_terminal.specs.Laws as terminal_laws
-use Rattle.lapd_terminal.specs.Machine.{Terminal, TerminalTold}
+use Rattle.lapd_terminal.specs.Machine.{Terminal}
 use Rattle.lapd_terminal.specs.Messages as messages
 use Rattle.lapd_terminal.specs.Sound as terminal
 use Rattle.lapd_terminal.specs.Words.{Course}
 use Rattle.lapd_terminal.proofs.Served.{leads}
 use Rattle.lapd_terminal.proofs.Told.{unserved_changes_nothing}
-use Rattle.model_line.specs.Effect.{Effect, at_a_terminal, note_of, order_of, of_network, of_terminal, of_terminal_if, told_of_terminal}
+use Rattle.model_line.specs.Effect.{Effect, at_a_terminal, note_of, order_of, of_network, of_terminal, told_of_terminal}
 use Rattle.model_line.specs.Line.{is_terminal, Own, terminal_in, with_terminal}
 use Rattle.model_line.specs.Sound.{IsOfSide, IsUnused}
 use Rattle.model_link.specs.declared.timers.LinkTimer.TheVariants as link_timer
@@ -34,27 +31,19 @@ use Rattle.laws_trace.proofs.ReadAgain.{own-text}
 use Rattle.laws_trace.proofs.TerminalTables.{IsOnce, teis-are-on}
 use Rattle.laws_trace.proofs.ManagingTables.{AreOn}
 use Rattle.laws_trace.proofs.Vocabulary.{IsSoundTable}
-use Rattle.laws_trace.proofs.Tracked.{IsKnown, OfSide, Tracks, Shows, IsQuiet, IsUnmanaged, none-granted, none-aims, link-aims, unmanaged-shows, timer-shows, is_managed, managed_of, one-or-none, first-goes, message-is as text-is, unit-is, link-is, next-shows}
+use Rattle.laws_trace.proofs.Tracked.{IsKnown, OfSide, Tracks, Shows, IsQuiet, IsUnmanaged, none-granted, none-aims, link-aims, unmanaged-shows, timer-shows, managed_of, one-or-none, first-goes, message-is as text-is, unit-is, link-is, next-shows}
+use Rattle.laws_trace.proofs.Vocabulary.{arith}
 
 -- Its notes are of TEIs, and its orders of the line's own timers.
 all-of-teis : (o : Option News) → filter is_of_teis (option_to_list (option_map note_of o)) ≡ option_to_list (option_map note_of o)
-all-of-teis None = refl
-all-of-teis (Some (news.Assigned tei)) = refl
-all-of-teis (Some (news.Removed tei)) = refl
-all-of-teis (Some news.Denied) = refl
-all-of-teis (Some news.Unassigned) = refl
-all-of-teis (Some news.RemoveAll) = refl
+all-of-teis o = grind arith
 
 all-of-line : (o : Option T202Order) → filter is_of_line (option_to_list (option_map order_of o)) ≡ option_to_list (option_map order_of o)
-all-of-line None = refl
-all-of-line (Some t202.Start) = refl
-all-of-line (Some t202.Stop) = refl
+all-of-line o = grind arith
 
 -- A message goes in the octets that are due.
 same-octets : (m : Message) → messages.information_of m ≡ octets_of m
-same-octets (IdentityRequest ri) = refl
-same-octets (IdentityCheckResponse ri tei) = refl
-same-octets (IdentityVerify tei) = refl
+same-octets m = grind arith
 
 own-texts : (c : Config) (m : Message) → is_terminal c ≡ true → messages.frame_of m ≡ message_text c (octets_of m)
 own-texts c m is = own-text c m is ∙ ap (message_text c) (same-octets m)
@@ -112,12 +101,7 @@ module _ (c : Config) (l : Line) (s : IsSound c l) (is : is_terminal c ≡ true)
 
   -- An event that is not served leaves all as it was, and nothing is due.
   unserved-shows : (e : Event) (te : TerminalEvent) → (terminals.told te t).unserved ≡ true → let y = of_terminal c te l in Shows c l e v (told y.told) y.line
-  unserved-shows e te un =
-      let same = unserved_changes_nothing te t un in
-      let at : Terminal → TerminalTold → Effect = λ now told. of_change c told.change (told_of_terminal told) (with_terminal now l) in
-      subst (λ now. let y = at now (terminals.told te t) in Shows c l e v (told y.told) y.line) (sym same.0)
-      (subst (λ its. let y = at t its in Shows c l e v (told y.told) y.line) (sym same.1)
-      (record { as_due = record { notes = sym quiet.notes; orders = sym quiet.orders; begins = sym (ap (map (message_text c)) quiet.begins); granted = none-granted v quiet.granted true }; lost = inl (sym quiet.lost); follows = here }))
+  unserved-shows e te un = grind (arith, unserved_changes_nothing, terminals.told, none-granted, here)
 
   message-shows : (e : Event) (info : List ℕ) → let y = of_terminal c (terminals.message info) l in
       Shows c l e (option_map_or (seen_there v) (seen.by_message info k) v) (told y.told) y.line
@@ -138,9 +122,7 @@ module _ (c : Config) (l : Line) (s : IsSound c l) (is : is_terminal c ≡ true)
 
   at-terminal-shows : (e : Event) (d : Managed) (me : teis.Event) (te : TerminalEvent) → at_a_terminal me ≡ Some te → let y = of_terminal c te l in Shows c l e d (told y.told) y.line
       → let y = of_aim c (at_management me) l in Shows c l e d (told y.told) y.line
-  at-terminal-shows e d me te own h =
-      subst (λ b. let y = cond b (of_terminal_if c (at_a_terminal me) l) (of_network c me l) in Shows c l e d (told y.told) y.line) (sym is)
-      (subst (λ o. let y = of_terminal_if c o l in Shows c l e d (told y.told) y.line) (sym own) h)
+  at-terminal-shows e d me te own h = grind (arith, of_network, told)
 
   plain-aim : (e : StreamEvent) → is_management (aim_of_heard c l e) ≡ false → IsUnmanaged c l (aim_of_heard c l e)
   plain-aim e none =
@@ -160,9 +142,7 @@ module _ (c : Config) (l : Line) (s : IsSound c l) (is : is_terminal c ≡ true)
 
   pub hears-shows : (e : StreamEvent) → Shows c l (hears e) (due_by (hears e)) (answer c (hears e) l) (after c (hears e) l)
   unfolding after answer
-  hears-shows e =
-      let y = of_aim c (aim_of_heard c l e) l in
-      subst (λ o. Shows c l (hears e) (option_map_or (seen_there v) o v) (told y.told) y.line) (sym (message-is-read-there c k e is)) (by-cases e (heard-cases c l e))
+  hears-shows e = grind (arith, hears, seen_there, told, message-is-read-there, by-cases, heard-cases)
 
   -- An expiry. T201 does not run.
   t202-shows : let y = of_terminal c terminals.expiry l in Shows c l (expiry T202) (seen_there v (seen.ran_out t.procedure k)) (told y.told) y.line
@@ -172,9 +152,7 @@ module _ (c : Config) (l : Line) (s : IsSound c l) (is : is_terminal c ≡ true)
       (terminal-shows terminals.expiry tt (expiry T202) None (λ so none. absurd (none-some so none)))
 
   t201-shows : let y = of_aim c (at_management teis.expiry) l in Shows c l (expiry T201) v (told y.told) y.line
-  t201-shows =
-      subst (λ b. let y = cond b (of_terminal_if c None l) (of_network c teis.expiry l) in Shows c l (expiry T201) v (told y.told) y.line) (sym is)
-      (record { as_due = record { notes = sym quiet.notes; orders = sym quiet.orders; begins = sym (ap (map (message_text c)) quiet.begins); granted = none-granted v quiet.granted true }; lost = inl (sym quiet.lost); follows = here })
+  t201-shows = grind (arith, of_network, T201, told, none-granted, here)
 
   pub expiry-shows : (timer : Timer) → Shows c l (expiry timer) (due_by (expiry timer)) (answer c (expiry timer) l) (after c (expiry timer) l)
   unfolding after answer
@@ -200,9 +178,7 @@ module _ (c : Config) (l : Line) (s : IsSound c l) (is : is_terminal c ≡ true)
   went = tracked later l.management (record l.own { waiting = drop 1 waiting }) s.management.table (record { own_is = refl; on_is = refl; owed = known-so.owed })
 
   stays : (new : Line) → new.management ≡ l.management → new.own ≡ l.own → waiting ≡ [] → Tracks c later new.management new.own
-  stays new same own none =
-      subst (λ m. Tracks c later m new.own) (sym same)
-      (subst (Tracks c later l.management) (ap (λ ms. record l.own { waiting = ms }) (ap (drop 1) none ∙ sym none) ∙ sym own) went)
+  stays new same own none = grind (arith, went)
 
   none-goes : waiting ≡ [] → [] ≡ due_texts
   none-goes none = sym (ap (λ ms. map (message_text c) (map octets_of (take 1 ms))) none)
@@ -211,24 +187,7 @@ module _ (c : Config) (l : Line) (s : IsSound c l) (is : is_terminal c ≡ true)
   no-message ms m none first = none-some m (sym (ap (λ ms. slice_get ms 0) none) ∙ first)
 
   goes : (new : Line) (o : Option Taken) → elim o as (λ o. Type 0) [ None ↦ IsIdle c l new | Some t ↦ IsOwed c (contents_of_link l) l new t.frame ] → Goes new o
-  goes new None x = (
-    none-goes x.nothing.messages.own,
-    stays new (ap (λ (l : Line). l.management) x.line) (ap (λ (l : Line). l.own) x.line) x.nothing.messages.own,
-  )
-  goes new (Some t) (inl x) = absurd (no-message l.management.waiting x.message both.1.waiting x.oldest)
-  goes new (Some t) (inr (inl x)) = (
-    one-or-none c t true (ap (is_managed c) x.spelled ∙ ap (is_managed c) (own-texts c x.message is) ∙ text-is c (octets_of x.message))
-        ∙ ap (λ f. f ∷ []) (x.spelled ∙ own-texts c x.message is) ∙ sym (ap (λ ms. map (message_text c) (map octets_of ms)) (first-goes waiting x.message x.oldest)),
-    subst (λ (l : Line). Tracks c later l.management l.own) (sym x.line) went,
-  )
-  goes new (Some t) (inr (inr (inl x))) = (
-    one-or-none c t false (unit-is c l new t x) ∙ none-goes x.no_message.own,
-    stays new (ap (λ (l : Line). l.management) x.line) (ap (λ (l : Line). l.own) x.line) x.no_message.own,
-  )
-  goes new (Some t) (inr (inr (inr x))) = (
-    one-or-none c t false (link-is c l new t (contents_of_link l) x) ∙ none-goes x.its_turn.no_message.own,
-    stays new (ap (λ (l : Line). l.management) x.line) (ap (λ (l : Line). l.own) x.line) x.its_turn.no_message.own,
-  )
+  goes new o x = grind (arith, none-goes, stays, no-message, both, one-or-none, own-texts, text-is, first-goes, went, unit-is, link-is)
 
   pub next-shown : Shows c l next (due_by next) (answer c next l) (after c next l)
   unfolding after

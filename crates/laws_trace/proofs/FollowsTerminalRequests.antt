@@ -4,7 +4,6 @@ use Rattle.laws_trace.proofs.Vocabulary.{Line, has_tei, unless_refused}
 use Rattle.laws_trace.proofs.Vocabulary.{unless_refused_told, bad_tei, no_link, tei_taken, bad_tei_or_all, tei_in_use, table_full, check_running, control_full, Assign, Remove, Disown, Deactivate, aim_of_request, passed, Down, at_no_link, Stop, Event, told, line_after as after, answer, Establish, Release, refusal, Request, Checking, SetBusy, ClearBusy, IsSound, Managed, by-down, stop_of}
 use Rattle.laws_trace.proofs.Vocabulary.{is_of_line, LinkSetBusy, LinkClearBusy, tei_assign, tei_remove, TeiEvent}
 use Rattle.lapd_frame.specs.declared.addresses.Side.{Side}
-use Rattle.lapd_frame.specs.declared.addresses.Side.TheVariants.{User, Network}
 use Rattle.lapd_frame.specs.declared.refusals.Refusal.TheVariants.{BadTei, NoLink, TeiTaken, TableFull, CheckRunning, WrongSide}
 use Rattle.lapd_frame.specs.declared.timers.Timer.TheVariants.{T202}
 use Rattle.lapd_tei.specs.Events.{refusal_if}
@@ -33,40 +32,28 @@ use Rattle.laws_trace.proofs.TrackedRequests.{asked-shows, deactivated-shows, un
 
 -- Rows that refuse a request, and whether it is granted.
 if_not : (x y : Bool) (p q : Refusal) → is_some (cond (not x) (Some p) (cond y (Some q) None)) ≡ not (x && not y)
-if_not true true p q = refl
-if_not true false p q = refl
-if_not false y p q = refl
+if_not x y p q = grind arith
 
 if_on : (high on y : Bool) (o p q : Refusal) → (on ≡ true → high ≡ false) → is_some (cond high (Some o) (cond (not on) (Some p) (cond y (Some q) None))) ≡ not (on && not y)
-if_on true true y o p q low = absurd (true≢false (low refl))
-if_on true false y o p q low = refl
-if_on false true true o p q low = refl
-if_on false true false o p q low = refl
-if_on false false y o p q low = refl
+if_on high on y o p q low = grind (arith, true≢false)
 
 if_off : (high on free : Bool) (o p q : Refusal) → is_some (cond high (Some o) (cond on (Some p) (cond (not free) (Some q) None))) ≡ not (not high && not on && free)
-if_off true on free o p q = refl
-if_off false true free o p q = refl
-if_off false false true o p q = refl
-if_off false false false o p q = refl
+if_off high on free o p q = grind arith
 
 is-low : (tei : ℕ) → nat_le tei 126 ≡ not (nat_lt 126 tei)
 is-low tei = grind (arith, nat_le, leb-true, leb-false, ltb-true, ltb-false)
 
 user-alone : (side : Side) (seed : Option ℕ) → is_at side seed ≡ true → is_network side ≡ false
-user-alone User seed is = refl
-user-alone Network seed is = absurd (true≢false (sym is))
+user-alone side seed is = grind (arith, true≢false)
 
 two : (a b : Bool) (x y : Refusal) → a ≡ false → b ≡ false → refusal_if a x (refusal_if b y None) ≡ None
 two a b x y e f = rw (e, f) refl
 
 is-there : (o : Option ℕ) → not (is_some o) ≡ false → (place : ℕ) × (o ≡ Some place)
-is-there None e = absurd (true≢false e)
-is-there (Some place) e = (place, refl)
+is-there o e = grind (arith, true≢false)
 
 stopped : (o : Option Procedure) → filter is_of_line (stop_202 o) ≡ cond (is_some o) (Stop T202 ∷ []) []
-stopped None = refl
-stopped (Some procedure) = refl
+stopped o = grind arith
 
 module _ (c : Config) (l : Line) (s : IsSound c l) (is : is_terminal c ≡ true) (v : Managed) (quiet : IsQuiet v) (known-so : IsKnown c v l.management l.own) where
   abbrev t : Terminal
@@ -161,8 +148,7 @@ module _ (c : Config) (l : Line) (s : IsSound c l) (is : is_terminal c ≡ true)
   none-waits = ap (λ ms. nat_le 4 (length ms)) (both c l s is v quiet known-so).1.waiting
 
   or-true : (b : Bool) → (b || true) ≡ true
-  or-true true = refl
-  or-true false = refl
+  or-true b = grind arith
 
   remove-shows : (tei : ℕ) → Answers (Remove tei) (due_by c l s is v quiet known-so (request (Remove tei))) (refusal c false (Remove tei) l)
   unfolding terminals.course

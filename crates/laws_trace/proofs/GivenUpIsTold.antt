@@ -1,8 +1,8 @@
 -- What is granted is acknowledged, waits or is given up, and what is given up is told: the law.
-use Rattle.laws_trace.proofs.Vocabulary.{◌≡◌, ℕ, ◌<◌, ◌==◌, ◌&&◌, ◌||◌, Bool, true, false, cond, not, List, length, list_any, Option, Some, None, option_map, refl, sym, ap, ◌∙◌, subst, ◌⊎◌, inl, inr, ⊎_elim, arith, eq-eqb, true≢false, or-true, PoolFull, Refusal, Service, Timer, Link, Terms, queue_of, empties, cleared, Config, Aim, at_none, at_link, of_aim}
+use Rattle.laws_trace.proofs.Vocabulary.{◌≡◌, ℕ, ◌<◌, ◌==◌, ◌&&◌, ◌||◌, Bool, true, false, cond, not, List, length, Option, Some, None, option_map, refl, sym, ap, ◌∙◌, subst, ◌⊎◌, inl, inr, ⊎_elim, arith, eq-eqb, true≢false, or-true, PoolFull, Refusal, Service, Timer, Link, Terms, queue_of, empties, cleared, Config, Aim, at_none, at_link, of_aim}
 use Rattle.laws_trace.proofs.Vocabulary.{at_units, at_management, at_no_link, aim_of_expiry, aim_of_heard, hears, expiry, request, next, Answer, refused, told, next_of, taken, Line, has_tei}
-use Rattle.laws_trace.proofs.Vocabulary.{link_of, link_in, place_in, aim_of, unless_refused, unless_refused_told, aim_of_request, Deactivate, IsDeactivated, heard_aims, IsProper, heard_proper, expiry_proper, request_proper, IsInRange, terms, is-off, is_on-at}
-use Rattle.laws_trace.proofs.Vocabulary.{service-same, same_service, other-none, own-gone, given_up_in, given_up_of, by-down, is_loss_of, notes_of, Card, line_at, at, fresh, after, card_answer as answer, after_all, AreAtLines, managing_is_on as is_on, View, views, moment_of, outgoing_of, link_told}
+use Rattle.laws_trace.proofs.Vocabulary.{link_of, link_in, place_in, aim_of, unless_refused, unless_refused_told, aim_of_request, IsDeactivated, heard_aims, IsProper, heard_proper, expiry_proper, request_proper, IsInRange, terms, is-off, is_on-at}
+use Rattle.laws_trace.proofs.Vocabulary.{service-same, same_service, other-none, own-gone, given_up_in, given_up_of, by-down, notes_of, Card, line_at, at, fresh, after, card_answer as answer, after_all, AreAtLines, managing_is_on as is_on, View, views, moment_of, outgoing_of, link_told}
 use Rattle.laws_trace.proofs.Vocabulary.{seen, Always, Event, IsSound, refusal, Request, CardIsSound, CardEvent, StreamEvent}
 use Rattle.model_line.proofs.Downs.{given_up as down_given_up}
 use Rattle.model_line.specs.Effect.{at_terminal}
@@ -91,10 +91,7 @@ module _ (c : Config) (ranged : IsInRange c) (l : Line) (s : IsSound c l) (servi
 
     -- so does its deactivation,
     lost-by : IsDeactivated e a service tei → lost_in service tei (seen e a) ≡ true
-    lost-by by =
-        ap (λ what. lost_in service tei (seen what a)) by.0 ∙ asked-loses service tei (Deactivate service tei) a
-        ∙ ap (λ b. cond b (is_release_of service tei (Deactivate service tei) || list_any (is_loss_of service tei) (notes_of a)) false) by.1
-        ∙ ap (λ b. b || list_any (is_loss_of service tei) (notes_of a)) (own-is service tei)
+    lost-by by = grind (arith, lost_in, seen, asked-loses, is_release_of, own-is)
 
     ended : IsGivenUp c service tei e l new a → IsAllTold tei
     ended x = (ends-by true (has_tei tei new) (lost-by x.by) refl, x.given_up ∙ all-gone)
@@ -235,10 +232,7 @@ module _ (c : Config) (events : List CardEvent) (number : ℕ) (ranged : IsInRan
         ∙ (holds-behind c events number ranged all within service tei what).follows.on.same tei
 
     ends-so : (is_on tei view.teis && (loses service tei what answered || not (is_on tei (views c service tei number view (moment_of c events number what)).teis))) ≡ Ends tei
-    ends-so =
-        ap (λ b. b && (loses service tei what answered || not (is_on tei (views c service tei number view (moment_of c events number what)).teis))) on-before
-        ∙ ap (λ b. has_tei tei its && (b || not (is_on tei (views c service tei number view (moment_of c events number what)).teis))) (sym (lost-so service tei what answered (next-quiet card_now number what)))
-        ∙ ap (λ b. has_tei tei its && (lost_in service tei (seen what answered) || not b)) on-behind
+    ends-so = grind (arith, loses, on-before, lost-so, next-quiet, lost_in, seen, on-behind)
 
     pub gives : given_up c service tei number events what ≡ cond (Ends tei) (length (queue_of (link_of service tei its))) 0
     gives = ap (λ b. cond b (length (outgoing_of c service tei number events).kept) 0) ends-so ∙ go (place_in its tei) refl
@@ -255,8 +249,7 @@ module _ (c : Config) (events : List CardEvent) (number : ℕ) (ranged : IsInRan
 -- Two links that give up a number are of one TEI.
 module _ (c : Config) (events : List CardEvent) (number : ℕ) (ranged : IsInRange c) (all : AreAtLines (fresh c) events) (within : number < c.lines) (what : Event) where
   no-more : (z : Service) (n : ℕ) → Ends c events number ranged all within z what n ≡ false → given_up c z n number events what ≡ 0
-  no-more z n none =
-      gives c events number ranged all within z what n ∙ ap (λ b. cond b (length (queue_of (link_of z n (line_at number (after_all (fresh c) events))))) 0) none
+  no-more z n none = grind (arith, gives, fresh)
 
   named-is : (service : Service) (tei by : ℕ) (r : Request) → what ≡ request r → named_by r ≡ Some by → (given_up c service tei number events what ≡ 0) ⊎ (tei ≡ by)
   named-is service tei by r is named =

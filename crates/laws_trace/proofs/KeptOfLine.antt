@@ -78,9 +78,7 @@ module _ (c : Config) (ranged : IsInRange c) (l : Line) (s : IsSound c l) (servi
 
   -- No event of the link grants it data.
   pub none-granted : (e : Event) → HasNone c service tei e l (line_after c e l) (answer c e l) → granted_in service tei (seen e (answer c e l)) ≡ []
-  none-granted next x = grind arith
-  none-granted (request r) x = grind (arith, asked-grants, cond_both, asks.elsewhere)
-  none-granted other x = told-grants service tei (answer c other l)
+  none-granted other x = grind (arith, asked-grants, cond_both, asks.elsewhere, told-grants, answer)
 
   -- and none loses what it keeps, while its TEI stays
   module _ (place : ℕ) (on : place_in l tei ≡ Some place) where

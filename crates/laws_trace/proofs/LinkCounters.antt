@@ -1,10 +1,10 @@
 -- Counters of a link count what its events show: the law.
-use Rattle.laws_trace.proofs.Vocabulary.{arith, ◌≡◌, ℕ, ◌<◌, ◌==◌, ◌&&◌, ◌||◌, not, Bool, true, false, cond, List, [], ◌∷◌, ◌++◌, map, fold, Option, Some, None, refl, sym, ap, ◌∙◌, subst, inl, inr, eq-eqb, eqb-true, true≢false, is_some, option_map, option_to_list, option_map_or, append-nil, All, All-head, All-tail, All-cons, All-nil, get_or, get_or-set_same, get_or-replicate, and_parts, lt-ltb}
-use Rattle.laws_trace.proofs.Vocabulary.{place_of-is, at-within, number_within, given-in-order, IsInOrder, given_is_frame, ControlFrame, Terms, Link, Given, Service, link_in, link_number, link_of, place_in, terms, terms_in_range, IsInRange, IsSound, Config, Line, fresh_line, Answer, Event, hears, expiry, request, next}
-use Rattle.laws_trace.proofs.Vocabulary.{IsBy, ◌⊎◌, IsGiven, is_ui, is_frame_of, link_after, given, fresh_link, line_frame_of, refused, PoolFull, list_any}
+use Rattle.laws_trace.proofs.Vocabulary.{arith, ◌≡◌, ℕ, ◌<◌, ◌&&◌, ◌||◌, true, false, cond, List, [], ◌∷◌, ◌++◌, map, fold, Option, Some, None, refl, sym, ap, ◌∙◌, subst, inl, inr, eq-eqb, eqb-true, true≢false, is_some, option_map, option_to_list, option_map_or, append-nil, All, All-head, All-tail, All-cons, All-nil, get_or-set_same, get_or-replicate, and_parts, lt-ltb}
+use Rattle.laws_trace.proofs.Vocabulary.{place_of-is, at-within, number_within, given-in-order, IsInOrder, given_is_frame, ControlFrame, Terms, Link, Given, Service, link_in, link_number, link_of, place_in, terms, terms_in_range, IsInRange, IsSound, Config, Line, fresh_line, Answer, Event, next}
+use Rattle.laws_trace.proofs.Vocabulary.{◌⊎◌, IsGiven, is_ui, is_frame_of, link_after, given, fresh_link, line_frame_of, refused, PoolFull, list_any}
 use Rattle.model_line.proofs.TimersFollow.{nowhere}
-use Rattle.laws_trace.proofs.Vocabulary.{Card, CardEvent, CardIsSound, line_at, is_full, fresh, moments, after, card_answer, after_all, IsAtLine, AreAtLines, after_is_sound, fresh_is_sound, has_lines, by_room, line_sound, config-stays, Always}
-use Rattle.model_line.specs.Line.{counts_in, counts_of}
+use Rattle.laws_trace.proofs.Vocabulary.{Card, CardEvent, CardIsSound, line_at, fresh, moments, after, card_answer, after_all, IsAtLine, AreAtLines, after_is_sound, fresh_is_sound, has_lines, by_room, line_sound, config-stays, Always}
+use Rattle.model_line.specs.Line.{counts_in}
 use Rattle.model_line.specs.Machine as lines
 use Rattle.model_link.specs.Events as link
 use Rattle.model_link.specs.Machine as links
@@ -25,10 +25,7 @@ use Rattle.laws_trace.proofs.Facts.{some-of}
 
 -- An event is a call for the next frame, or none.
 is-next : (e : Event) → (e ≡ next) ⊎ (e ≡ next → ⊥)
-is-next next = inl refl
-is-next (hears what) = inr (λ same. cc same)
-is-next (expiry timer) = inr (λ same. cc same)
-is-next (request r) = inr (λ same. cc same)
+is-next e = grind arith
 
 -- A list of events, and one more.
 joined : (t : Terms) (es : List link.Event) (e : link.Event) (l : Link) → links.after_all t (es ++ e ∷ []) l ≡ link_after t e (links.after_all t es l)
@@ -99,16 +96,10 @@ module _ (service : Service) (tei : ℕ) where
           (by-one link.offer is)
 
       by-offer : HasOne c service tei e l new a → e ≡ next → LedBy (event_in c service tei e a)
-      by-offer x is =
-          let what : x.event ≡ link.offer = only-offered c a service tei x.event (subst (λ e. IsBy c e a service tei x.event) is x.by) in
-          subst (λ e. LedBy (event_in c service tei e a)) (sym is)
-          (subst (λ frames. LedBy (cond (list_any (is_frame_of c service tei) frames) (Some link.offer) None))
-          (sym (x.begins ∙ ap (λ e. frames_given c t e own) what))
-          (by-given (given t own) refl (x.is ∙ ap (λ e. link_after t e own) what)))
+      by-offer x is = grind (arith, link.offer, only-offered, frames_given, by-given, given)
 
       by-event : HasOne c service tei e l new a → (o : (e ≡ next) ⊎ (e ≡ next → ⊥)) → LedBy (event_in c service tei e a)
-      by-event x (inl is) = by-offer x is
-      by-event x (inr other) = subst LedBy (sym (one-happens c service tei a e x.event x.by other)) (by-one x.event x.is)
+      by-event x o = grind (arith, by-offer, one-happens, by-one)
 
       on-line-led : (there : ℕ) → place_in new tei ≡ Some there → LedBy (event_in c service tei e a)
       on-line-led there stays = go (event-goes c e l service tei s)
@@ -134,11 +125,7 @@ module _ (service : Service) (tei : ℕ) where
     -- where the pool is full
     still-led : lines.takes_slot c e l ≡ true → Led c (then (place_in l tei) (place_in l tei) (refused PoolFull)) l
     unfolding links.after_all
-    still-led full = go (place_in l tei) refl
-      where
-        go : (from : Option ℕ) → place_in l tei ≡ from → Led c (then from from (refused PoolFull)) l
-        go None off = off-fresh service tei l off
-        go (Some place) on = led ∙ ap (λ es. links.after_all t es fresh_link) (sym (append-nil es)) ∙ ap (λ o. links.after_all t (es ++ option_to_list o) fresh_link) (sym (none-full c service tei e l full))
+    still-led full = grind (arith, refused, off-fresh, fresh_link, append-nil, option_to_list, none-full)
 
   -- One event of a card.
   module _ (card : Card) (s : CardIsSound card) (e : CardEvent) (here : IsAtLine card e) (es : List link.Event) where
@@ -150,30 +137,11 @@ module _ (service : Service) (tei : ℕ) where
 
     own-led : NoneWaits c l → Led c es l
         → Led c (cond (is_on_line e.line tei card && is_on_line e.line tei (after e card)) (es ++ option_to_list (event_in c service tei e.what (card_answer e card))) []) (line_at e.line (after e card))
-    own-led bare led =
-        by_room
-        (λ ls b. let x = get_or ls e.line (fresh_line c) in
-        Led c (cond (is_some (place_in l tei) && is_some (place_in x tei)) (es ++ option_to_list (event_in c service tei e.what b)) []) x) e card
-        (λ full. still-led c s.config l sound bare e.what es led (and_parts (lines.takes_slot c e.what l) (is_full card) full).0)
-        (λ room.
-        subst (λ (x : Line). Led c (cond (is_some (place_in l tei) && is_some (place_in x tei)) (es ++ option_to_list (event_in c service tei e.what (lines.answer c e.what l))) []) x)
-        (sym (get_or-set_same card.lines e.line (lines.after c e.what l) (fresh_line c) (omega (arith, s.count, here))))
-        (line-led c s.config l sound bare e.what es led))
-      where
-        sound : IsSound c l
-        sound = line_sound card e.line (has_lines card s) here
+    own-led bare led = grind (arith, by_room, is_some, option_to_list, still-led, and_parts, lines.answer, get_or-set_same, lines.after, line-led, line_sound, has_lines)
 
     moment-led : (number : ℕ) → NoneWaits c (line_at number card) → Led c es (line_at number card)
         → Led c (joins c service tei number es (record { card = card; event = e; answer = card_answer e card })) (line_at number (after e card))
-    moment-led number bare led = go (e.line == number) refl
-      where
-        go : (b : Bool) → (e.line == number) ≡ b
-            → Led c (cond (not b) es (cond (is_on_line number tei card && is_on_line number tei (after e card)) (es ++ option_to_list (event_in c service tei e.what (card_answer e card))) [])) (line_at number (after e card))
-        go true is =
-            subst (λ n. Led c (cond (is_on_line n tei card && is_on_line n tei (after e card)) (es ++ option_to_list (event_in c service tei e.what (card_answer e card))) []) (line_at n (after e card)))
-            (eqb-true e.line number is)
-            (own-led (subst (λ n. NoneWaits c (line_at n card)) (sym (eqb-true e.line number is)) bare) (subst (λ n. Led c es (line_at n card)) (sym (eqb-true e.line number is)) led))
-        go false other = subst (Led c es) (sym (apart card e number (λ same. true≢false (sym (eq-eqb e.line number (sym same)) ∙ other)))) led
+    moment-led number bare led = grind (arith, after, option_to_list, eqb-true, own-led, apart, true≢false, eq-eqb)
 
     none-waits : (number : ℕ) → NoneWaits c (line_at number card) → NoneWaits c (line_at number (after e card))
     unfolding after_all
@@ -208,14 +176,7 @@ module _ (service : Service) (tei : ℕ) where
         terms_in_range c ranged service tei ((line-at-end c events number ranged all within).management.table.range place tei (place_of-is its.management.places tei place on).1)
 
     its-counts : (o : Option ℕ) → place_in its tei ≡ o → option_map (counts_in its service) o ≡ cond (is_some o) (Some (counted_in c service tei (events_of_link c service tei number events))) None
-    its-counts None off = refl
-    its-counts (Some place) on =
-        ap (λ (k : Link). Some k.counts) (sym (ap (λ o. option_map_or (link_in its service) o fresh_link) on) ∙ its-led)
-        ∙ ap (λ k. Some k) (counts-are (terms c service tei) (events_of_link c service tei number events) (ranges place on))
+    its-counts o off = grind (arith, fresh_link, its-led, counts-are, ranges)
 
 pub link-counters-count : Always LinkCountersCount
-link-counters-count c events number ranged all within service tei =
-    let card = after_all (fresh c) events in
-    let there = lt-ltb number card.config.lines (subst (λ (d : Config). number < d.lines) (sym (config-stays (fresh c) events)) within) in
-    ap (λ b. cond b (counts_of service tei (line_at number card)) None) there
-    ∙ its-counts service tei c events number ranged all within (place_in (line_at number card) tei) refl
+link-counters-count c events number ranged all within service tei = grind (arith, fresh, lt-ltb, config-stays, its-counts)

@@ -1,12 +1,10 @@
 -- Which event of a link an event of its line is, by what is seen: what the link has, and none if it has none.
-use Rattle.laws_trace.proofs.Vocabulary.{arith, ◌≡◌, ℕ, ◌&&◌, Bool, true, false, cond, Option, Some, None, Result, Ok, refl, sym, ap, ◌∙◌, true≢false, option_map, option_or, option_and_then, result_err, and-true, Address, ReadFault, ErrorCode, Service, Timer, Parts, Long}
-use Rattle.laws_trace.proofs.Vocabulary.{Terms, Link, place_in, Config, Line, Aim, Answer, Event, hears, expiry, request, next, Request, aim_of_heard, aim_of_long, aim_of_reading, aim_of_expiry, aim_of_request, addressed}
-use Rattle.laws_trace.proofs.Vocabulary.{heard_side, reading, StreamEvent, stream_frame, TimerT200, TimerT203, T200, T203, at_timer, at_requested, at_deactivated, unless_refused, service_of, Establish, Release, Data, SetBusy, ClearBusy, Deactivate, IsBy, IsDeactivated, is_for, its_frame, frame_of, fault_of}
-use Rattle.laws_trace.proofs.Vocabulary.{faulty_long, malformed, is_granted, not-refused, answer, line_after, link_after, given, fresh_link, trace_frame_in as frame_in}
-use Rattle.lapd_frame.specs.Senders.{long_reading}
-use Rattle.model_bits.specs.Stream.{overlong as stream_overlong}
+use Rattle.laws_trace.proofs.Vocabulary.{arith, ◌≡◌, ℕ, ◌&&◌, Bool, true, false, cond, Option, Some, None, Result, refl, sym, ap, ◌∙◌, true≢false, option_map, option_or, option_and_then, result_err, and-true, Address, ReadFault, ErrorCode, Service, Timer, Parts, Long}
+use Rattle.laws_trace.proofs.Vocabulary.{Terms, Link, place_in, Config, Line, Aim, Answer, Event, hears, next, Request, aim_of_heard, aim_of_long, aim_of_reading, aim_of_expiry, aim_of_request, addressed}
+use Rattle.laws_trace.proofs.Vocabulary.{StreamEvent, TimerT200, TimerT203, T200, T203, at_timer, at_requested, at_deactivated, service_of, Establish, Release, Data, SetBusy, ClearBusy, Deactivate, IsBy, IsDeactivated, is_for, its_frame, frame_of, fault_of}
+use Rattle.laws_trace.proofs.Vocabulary.{faulty_long, malformed, not-refused, answer, line_after, link_after, given, fresh_link}
 use Rattle.model_link.specs.Events as link
-use Rattle.laws_trace.specs.LinkFrames.{begins_ui, is_annex_b}
+use Rattle.laws_trace.specs.LinkFrames.{is_annex_b}
 use Rattle.laws_trace.specs.LinkCountersCount.{by_letter, received_in, if_own, expired_in, requested_in, event_in}
 use Rattle.laws_trace.proofs.DeliveriesRun.{event-aims}
 use Rattle.laws_trace.proofs.FramesOfLink.{any-foreign}
@@ -42,16 +40,13 @@ module _ (c : Config) (service : Service) (tei : ℕ) where
     no-frame e aims (Some f) is = ap (λ b. cond b (Some f) None) (not-for e f is aims (is_for service tei f.address) refl)
 
     no-fault : (r : Result Parts ReadFault) → is_at_link service tei (aim_of_reading c l r) ≡ false → option_and_then (fault_of service tei) (result_err r) ≡ None
-    no-fault (Ok f) aims = refl
     no-fault r aims = grind (arith, away)
 
     no-long : (ui : Bool) (r : Result Long ReadFault) → is_at_link service tei (aim_of_long c.reading ui l r) ≡ false → faulty_long (is_annex_b c && ui) service tei r ≡ None
     no-long ui r aims = grind (arith, away)
 
     none-malformed : (e : StreamEvent) → is_at_link service tei (aim_of_heard c l e) ≡ false → malformed c service tei e ≡ None
-    none-malformed (stream_frame octets) aims = no-fault (reading (heard_side c) octets) aims
-    none-malformed (stream_overlong head) aims = no-long (begins_ui head) (long_reading (heard_side c) head) aims
-    none-malformed e aims = refl
+    none-malformed e aims = grind (arith, no-fault, no-long)
 
     none-received : (e : StreamEvent) → is_at_link service tei (aim_of_heard c l e) ≡ false → received_in c service tei e ≡ None
     none-received e aims =
@@ -81,15 +76,7 @@ module _ (c : Config) (service : Service) (tei : ℕ) where
     none-requested other aims = refl
 
     pub none-happens : (e : Event) → HasNone c service tei e l (line_after c e l) (answer c e l) → event_in c service tei e (answer c e l) ≡ None
-    none-happens (hears what) x = none-received what x.aims
-    none-happens (expiry timer) x = none-expired timer x.aims
-    none-happens (request r) x = go (is_granted (answer c (request r) l)) refl
-      where
-        go : (b : Bool) → is_granted (answer c (request r) l) ≡ b → cond b (requested_in service tei r) None ≡ None
-        go false other = refl
-        go true granted =
-            none-requested r (ap (λ o. is_at_link service tei (unless_refused o (aim_of_request r l))) (sym (not-refused c r l granted)) ∙ x.aims)
-    none-happens next x = ap (λ b. cond b (Some link.offer) None) (any-foreign c service tei (frame_in (answer c next l)) x.begins)
+    none-happens e x = grind (arith, none-received, none-expired, answer, none-requested, is_at_link, not-refused, link.offer, any-foreign)
 
   -- An event of the link that is no call for the next frame; and its deactivation.
   module _ (a : Answer) where

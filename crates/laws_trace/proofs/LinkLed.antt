@@ -10,14 +10,9 @@ use Rattle.laws_trace.proofs.TimersWatched.{Known}
 use Rattle.laws_trace.proofs.MovesOfLink.{expected, ticks, timer_of}
 use Rattle.laws_trace.proofs.Deliveries.{heard-by}
 use Rattle.laws_trace.proofs.OneLink.{is_at_link}
-use Rattle.model_bits.specs.Stream.{frame as stream_frame}
-use Rattle.model_bits.specs.Stream.{overlong as stream_overlong}
-use Rattle.lapd_frame.specs.Senders.{long_reading}
 use Rattle.model_line.specs.Heard.{aim_of_long}
 use Rattle.lapd_frame.specs.declared.overlong.Long.{Long}
-use Rattle.laws_trace.specs.LinkFrames.{begins_ui, faulty_long, is_annex_b, is_too_long}
-use Rattle.model_line.specs.Heard.{heard_side}
-use Rattle.laws_trace.proofs.Vocabulary.{reading}
+use Rattle.laws_trace.specs.LinkFrames.{faulty_long, is_annex_b, is_too_long}
 
 pub own-is : (service : Service) (tei : ℕ) → is_own service tei service tei ≡ true
 own-is service tei = ap (λ b. b && tei == tei) (service-same service) ∙ eq-eqb tei tei refl
@@ -74,9 +69,7 @@ module _ (c : Config) (service : Service) (tei : ℕ) (k : Known) where
     long-none x ui r aims = grind (arith, no-fault, addressed-none)
 
     heard-none : (x : ℕ) (e : StreamEvent) → is_at_link service tei (aim_of_heard c l e) ≡ false → by_heard x e ≡ x
-    heard-none x (stream_frame octets) aims = read-none x (reading (heard_side c) octets) aims
-    heard-none x (stream_overlong head) aims = long-none x (begins_ui head) (long_reading (heard_side c) head) aims
-    heard-none x e aims = grind (arith, no-fault)
+    heard-none x e aims = grind (arith, read-none, long-none, no-fault)
 
     -- an expiry, or a request, of another link
     pub elsewhere : (its : Service) (by : ℕ) (what : link.Event) (to : Option ℕ → Aim) → ((p : ℕ) → to (Some p) ≡ at_link its by p what)

@@ -95,12 +95,7 @@ module _ (c : Config) (ranged : IsInRange c) (l : Line) (s : IsSound c l) (timed
         (event-counted t own n x.event (no-event x.event c e a service tei x.by) (events.own-timed c ranged l s timed service tei k agrees e x.place x.placed) counts))
 
     stays-counted : Counts next.state (counted (told_state own.state) (told_state next.state)) next.repeats
-    stays-counted = go (event-goes c e l service tei s)
-      where
-        go : Goes c service tei e l (lines.after c e l) a → Counts next.state (counted (told_state own.state) (told_state next.state)) next.repeats
-        go (inl x) = none-counted x
-        go (inr (inl x)) = one-counted x
-        go (inr (inr x)) = subst (λ (y : Link). Counts y.state (counted (told_state own.state) (told_state y.state)) y.repeats) (sym x.is) tt
+    stays-counted = grind (arith, event-goes, lines.after, told_state, none-counted, one-counted)
 
   pub event-counts : IsCountOf service tei (counted (state_of service tei l) (state_of service tei (lines.after c e l))) (lines.after c e l)
   event-counts = go (place_in l tei) refl (place_in (lines.after c e l) tei) refl

@@ -138,10 +138,7 @@ module _ (c : Config) (l : Line) (s : IsSound c l) (service : Service) (tei : �
 
     left-given : (by place : ℕ) (z : Service)
         → given_up_in z (line_event.told (of_change c (Some (Left by place)) told (record l { management = m; own = own_part })).told) ≡ given_up_of z (link_told (terms c z by) link_event.cleared (link_in l z place))
-    left-given by place Call = refl
-    left-given by place Packet =
-        ap (λ x. (link_told (terms c Packet by) link_event.cleared x).given_up_16)
-        (get_or-set_other l.links (link_number place Call) (link_number place Packet) fresh fresh (λ e. omega (arith, e)))
+    left-given by place z = grind (arith, link_told, link_event.cleared, get_or-set_other, fresh)
 
     own-there : (place : ℕ) → IsAt l.management.places place tei → link_in l service place ≡ link_of service tei l
     own-there place at = sym (ap (λ o. option_map_or (link_in l service) o fresh) (has-place l.management.places tei place s.management.table at))

@@ -47,8 +47,7 @@ free-there (None ∷ places) place tei free is = grind (arith, first-of, none-so
 free-there (Some own ∷ places) place tei free is = absurd free
 
 comes-next : (o : Option ℕ) (place : ℕ) → option_map suc o ≡ Some place → (i : ℕ) × (o ≡ Some i) × (place ≡ suc i)
-comes-next None place is = absurd (none-some place is)
-comes-next (Some i) place is = (i, refl, grind arith)
+comes-next o place is = grind (arith, none-some)
 
 same-longer : (seen places : Places) → Same seen places → Same (seen ++ None ∷ []) places
 same-longer [] [] same = (refl, tt)
@@ -82,8 +81,7 @@ module _ {X : Type 0} (f g : Option ℕ → X) (none : f None ≡ g None) where
   apart i j other same = other (ap suc same)
 
   head-same : (o : Option ℕ) → ((x : ℕ) → o ≡ Some x → f (Some x) ≡ g (Some x)) → f o ≡ g o
-  head-same None h = none
-  head-same (Some x) h = h x refl
+  head-same o h = grind arith
 
   pub map-put : (places : Places) (place : ℕ) (o : Option ℕ) → ((j x : ℕ) → IsAt places j x → (j ≡ place → ⊥) → f (Some x) ≡ g (Some x))
       → map f (set places place o) ≡ set (map g places) place (f o)
@@ -114,11 +112,7 @@ same-less tei (o ∷ seen) (own ∷ places) same = (ap (less tei) same.0, same-l
 module _ (places : Places) (sound : IsSoundTable places) (tei : ℕ) where
   -- another place has another TEI,
   pub other-there : (place : ℕ) → IsAt places place tei → (j x : ℕ) → IsAt places j x → (j ≡ place → ⊥) → (x == tei) ≡ false
-  other-there place at j x there other = by-test (x == tei) refl
-    where
-      by-test : (b : Bool) → (x == tei) ≡ b → b ≡ false
-      by-test true is = absurd (other (sound.once j place tei (subst (IsAt places j) (eqb-true x tei is) there) at))
-      by-test false is = refl
+  other-there place h j x there other = grind (arith, eqb-true)
 
   -- and where it is at none, each has another
   pub other-each : place_of tei places ≡ None → (j x : ℕ) → IsAt places j x → (x == tei) ≡ false
@@ -213,11 +207,7 @@ not-among : (later : List ℕ) (tei : ℕ) → among (others tei later) tei ≡ 
 not-among later tei = among-others later tei tei ∙ ap (λ b. not b && among later tei) (eq-eqb tei tei refl)
 
 still-among : (later : List ℕ) (tei x : ℕ) → among (others tei later) x ≡ true → (among later x ≡ true) × ((x == tei) ≡ false)
-still-among later tei x is = go (x == tei) (sym (among-others later tei x) ∙ is)
-  where
-    go : (b : Bool) → (not b && among later x) ≡ true → (among later x ≡ true) × (b ≡ false)
-    go true e = absurd (true≢false (sym e))
-    go false e = (e, refl)
+still-among later tei x is = grind (arith, among-others, true≢false)
 
 module _ (seen : Places) (later : List ℕ) (places : Places) (to_check : List Bool) (h : ArePlaced seen later places to_check) where
   -- A TEI comes,
@@ -314,8 +304,4 @@ pub none-placed : (n : ℕ) → ArePlaced [] [] (replicate n None) (replicate n 
 none-placed n = record { same = none-taken n; due = sym (none-marked n); there = λ x is. absurd (true≢false (sym is)) }
 
 pub given-up : (seen : Places) (later : List ℕ) (places : Places) (to_check : List Bool) → ArePlaced seen later places to_check → ArePlaced seen [] places (replicate (length to_check) false)
-given-up seen later places to_check h = record {
-  same = h.same;
-  due = ap (λ n. replicate n false) (ap length h.due ∙ length-map places (marked later)) ∙ sym (all-unmarked places);
-  there = λ x is. absurd (true≢false (sym is));
-}
+given-up seen later places to_check h = grind (arith, length-map, all-unmarked, true≢false)

@@ -180,8 +180,7 @@ module _ {X : Type 0} (p : X → Bool) where
   IsAmong xs = (x : X) × (p x ≡ true) × ((q : X → Bool) → q x ≡ true → list_any q xs ≡ true)
 
   first-or : (x : X) (xs : List X) (b : Bool) → p x ≡ b → (b || list_any p xs) ≡ true → (list_any p xs ≡ true → IsAmong xs) → IsAmong (x ∷ xs)
-  first-or x xs true is e rest = (x, is, λ q qx. ap (λ b. b || list_any q xs) qx)
-  first-or x xs false is e rest = let r = rest e in (r.0, r.1, λ q qy. ap (λ b. q x || b) (r.2 q qy) ∙ or-true (q x))
+  first-or x xs b is e rest = grind (arith, or-true)
 
   among-some : (xs : List X) → list_any p xs ≡ true → IsAmong xs
   among-some [] e = absurd (true≢false (sym e))

@@ -2,7 +2,7 @@
 use Rattle.laws_trace.proofs.Vocabulary.{arith, ◌≡◌, ℕ, ◌||◌, Bool, true, false, cond, List, [], ◌∷◌, ◌++◌, map, filter, list_any, refl, ap, ◌∙◌, eq-eqb, and_parts, map-append, filter-append, All, All-head, All-tail, Service, reading-again, sapi_of, Config, eqb-true, IsSpelled, is_frame_of, or-true, own_side}
 use Rattle.laws_trace.proofs.LinkNames.{LinkName, named_in, is_of_a_link}
 use Rattle.laws_trace.proofs.Turns.{name-is}
-use Rattle.laws_trace.proofs.Vocabulary.{not, sym, Parts, Result, Ok, ReadFault, reading, result_ok, its_frame, option_map_or, is_ui}
+use Rattle.laws_trace.proofs.Vocabulary.{not, Parts, Result, Ok, ReadFault, reading, result_ok, its_frame, option_map_or, is_ui}
 
 module _ (c : Config) where
   abbrev pub names : List (List ℕ) → List LinkName
@@ -18,9 +18,6 @@ module _ (c : Config) where
     -- A frame of the link by its address and control field.
     abbrev is_its : Result Parts ReadFault → Bool
     is_its r = option_map_or (λ (f : Parts). not (is_ui f.control)) (its_frame service tei (result_ok r)) false
-
-    abbrev is_plain : Result Parts ReadFault → Bool
-    is_plain r = not (option_map_or (λ (f : Parts). is_ui f.control) (result_ok r) false)
 
     record Own (p : Parts) : Type 0 where
       plain : not (is_ui p.control) ≡ true
@@ -42,16 +39,10 @@ module _ (c : Config) where
       its = ap (named_in c.sapi) h.1.octets_are ∙ name-is (own_side c) h.0.address h.0.control h.0.info
 
       pub own-name : is_frame_of c service tei f ≡ true → (is_of_a_link (own_side c) f ≡ true) × (named_in c.sapi f ≡ name)
-      own-name is =
-          let x = parted h.0 (sym (ap is_its read) ∙ is) in (
-            ap is_plain read ∙ x.plain,
-            its ∙ ap (λ n. record { sapi = n; tei = h.0.address.tei }) x.sapi ∙ ap (λ n. record { sapi = sapi_of service; tei = n }) x.by,
-          )
+      own-name is = grind (arith, parted, read, its)
 
       pub name-own : is_of_a_link (own_side c) f ≡ true → named_in c.sapi f ≡ name → is_frame_of c service tei f ≡ true
-      name-own is named =
-          let same = sym its ∙ named in
-          ap is_its read ∙ joined h.0 (record { plain = sym (ap is_plain read) ∙ is; sapi = ap (λ (n : LinkName). n.sapi) same; by = ap (λ (n : LinkName). n.tei) same })
+      name-own is named = grind (arith, its, read, joined)
 
     -- A frame of the link among others has its name among theirs, and so the other way round.
     pub its-name : (a : List ℕ) (behind : List (List ℕ)) → IsSpelled c a → is_frame_of c service tei a ≡ true → names (a ∷ behind) ≡ name ∷ names behind

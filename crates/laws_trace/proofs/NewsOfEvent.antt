@@ -92,13 +92,7 @@ module _ (c : Config) (l : Line) (s : IsSound c l) (service : Service) (tei : �
 
     -- its deactivation
     ended-due : IsGivenUp c service tei e l (line_after c e l) a → Due (state_number own.state) (state_number next.state) (state_number next.state)
-    ended-due x =
-        ap (filter (is_news service tei)) x.notes ∙ (grind (arith, event-follows, due, own-is))
-        ∙ sym (ap (λ (y : Link). due service tei (Errors (state_number own.state) (state_number y.state)) was (heard is_xid) (heard is_sabme) (releases service tei e a) outstanding (state_number own.state) (state_number y.state)) x.is
-        ∙ ap (λ asked. due service tei (wrong c service tei asked (state_number own.state) 4) was (heard is_xid) (heard is_sabme) (releases service tei e a) outstanding (state_number own.state) 4) x.by.0
-        ∙ ap (λ b. due service tei [] was b (heard is_sabme) (releases service tei e a) outstanding (state_number own.state) 4) (ended-heard is_xid x)
-        ∙ ap (λ b. due service tei [] was false b (releases service tei e a) outstanding (state_number own.state) 4) (ended-heard is_sabme x)
-        ∙ ap (λ e. due service tei [] was false false (releases service tei e a) outstanding (state_number own.state) 4) x.by.0)
+    ended-due x = grind (arith, event-follows, due, own-is, releases, wrong, ended-heard)
 
     stays-due : Due (state_number own.state) (state_number next.state) (state_number next.state)
     stays-due = go (event-goes c e l service tei s)
@@ -109,10 +103,7 @@ module _ (c : Config) (l : Line) (s : IsSound c l) (service : Service) (tei : �
         go (inr (inr x)) = ended-due x
 
     stays-asked : Asks next.state (then_asked (told_state own.state) (told_state next.state)) next.asked
-    stays-asked = go (event-goes c e l service tei s)
-      where
-        go : Goes c service tei e l (line_after c e l) a → Asks next.state (then_asked (told_state own.state) (told_state next.state)) next.asked
-        go other = grind (arith, same, same-state, and-false, told_state, asked-in, event-asking, no-event)
+    stays-asked = grind (arith, event-goes, Asks, told_state, same, same-state, and-false, asked-in, event-asking, no-event)
 
   begins-asked : (b : Bool) → next ≡ fresh_link → Asks next.state b next.asked
   begins-asked b is = subst (λ (y : Link). Asks y.state b y.asked) (sym is) tt

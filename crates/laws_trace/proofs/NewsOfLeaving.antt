@@ -1,13 +1,11 @@
 -- Where the TEI of a link leaves its line, what is told of the link is what the end of the TEI tells.
-use Rattle.laws_trace.proofs.Vocabulary.{◌≡◌, ℕ, ◌==◌, ◌&&◌, ◌||◌, not, Bool, true, false, List, [], ◌++◌, Option, Some, None, refl, sym, ap, ◌∙◌, subst, arith, eq-eqb, true≢false, ◌⊎◌, inl, inr, append-nil, filter, option_map_or, get_or-set_other, filter-append, Note, Refusal, Service, Call, Packet, Timer, same_service, Management, is_on, Change, Gained, Left, place_of-is, is_on-at}
-use Rattle.laws_trace.proofs.Vocabulary.{event-follows, Link, state_number, Config, Aim, at_none, at_link, at_management, of_aim, of_change, Answer, hears, expiry, request, next, dropped, aim_of_expiry, Line, has_tei, link_in, link_of, link_number, place_in, terms, aim_of, unless_refused, unless_refused_told, aim_of_heard, aim_of_request, group_told, IsProper, heard_aims}
-use Rattle.laws_trace.proofs.Vocabulary.{request_proper, notes_of, has-place, Down, at_no_link, IfSome, line_of, Taken, taken, IsOne, taken-one, eqb-true, fresh_link as fresh, line_of_link as of_link, Event, line_after as after, answer, refusal, Request, Checking as Check, Disown, tei_disown, IsSound, is_news, releases, by-down, or-true, HasLeft, TeiIsInRange as IsInRange, Moves}
+use Rattle.laws_trace.proofs.Vocabulary.{◌≡◌, ℕ, ◌==◌, ◌&&◌, ◌||◌, not, Bool, true, false, List, [], ◌++◌, Option, Some, None, refl, sym, ap, ◌∙◌, subst, arith, eq-eqb, true≢false, ◌⊎◌, inl, inr, append-nil, filter, option_map_or, get_or-set_other, filter-append, Note, Refusal, Service, Timer, Management, is_on, Change, Gained, Left, place_of-is, is_on-at}
+use Rattle.laws_trace.proofs.Vocabulary.{event-follows, Link, state_number, Config, Aim, at_none, at_link, at_management, of_aim, of_change, Answer, hears, expiry, request, next, dropped, aim_of_expiry, Line, has_tei, link_of, place_in, terms, aim_of, unless_refused, unless_refused_told, aim_of_heard, aim_of_request, group_told, IsProper, heard_aims}
+use Rattle.laws_trace.proofs.Vocabulary.{request_proper, notes_of, has-place, Down, at_no_link, IfSome, line_of, Taken, taken, IsOne, taken-one, eqb-true, fresh_link as fresh, Event, line_after as after, answer, refusal, Request, Checking as Check, Disown, tei_disown, IsSound, is_news, releases, by-down, or-true, HasLeft, TeiIsInRange as IsInRange, Moves}
 use Rattle.laws_trace.proofs.Vocabulary.{link_told as told, false_from_ne_true, received, LinkEvent, cleared, StreamEvent, tei_check, TeiEvent, tei_message}
-use Rattle.lapd_frame.specs.declared.timers.Timer.TheVariants.{T202}
 use Rattle.laws_line.proofs.Changes.{AreOfTeis, Turn, turned, turned-there}
-use Rattle.laws_trace.proofs.Vocabulary.{T201, LineTold, Assign, Remove, tei_assign, tei_remove}
-use Rattle.lapd_terminal.specs.Events.{Event as TerminalEvent, ask as terminal_ask, expiry as terminal_expiry, verify as terminal_verify}
-use Rattle.lapd_tei.specs.Events.{expiry as tei_expiry}
+use Rattle.laws_trace.proofs.Vocabulary.{LineTold, Assign, Remove, tei_assign, tei_remove}
+use Rattle.lapd_terminal.specs.Events.{Event as TerminalEvent, ask as terminal_ask, verify as terminal_verify}
 use Rattle.model_line.proofs.Managed.{IsOwnEvent}
 use Rattle.model_line.specs.Effect.{Effect, at_terminal}
 use Rattle.model_line.specs.Line.{Own}
@@ -61,38 +59,7 @@ module _ (service : Service) (tei : ℕ) (c : Config) (l : Line) (s : IsSound c 
 
     -- its own TEI leaves
     its-own : (place' : ℕ) → HasLeft l.management.places m.places tei place' → Leaves (of_change c (Some (Left tei place')) t at).told.notes
-    its-own place' gone = by-service service refl
-      where
-        placed : place_in l tei ≡ Some place'
-        placed = has-place l.management.places tei place' s.management.table gone.was_there
-
-        call : List Note
-        call = (of_link c Call tei place' cleared at).told.notes
-
-        packet : List Note
-        packet = (of_link c Packet tei place' cleared (of_link c Call tei place' cleared at).line).told.notes
-
-        second : link_in (of_link c Call tei place' cleared at).line Packet place' ≡ link_in l Packet place'
-        second = get_or-set_other l.links (link_number place' Call) (link_number place' Packet) fresh fresh (λ e. omega (arith, e))
-
-        first-only : (xs ys zs : List Note) → xs ≡ [] → zs ≡ [] → (xs ++ ys) ++ zs ≡ ys
-        first-only xs ys zs none after = ap (λ xs. (xs ++ ys) ++ zs) none ∙ ap (λ zs. ys ++ zs) after ∙ append-nil ys
-
-        last-only : (xs ys zs : List Note) → xs ≡ [] → ys ≡ [] → (xs ++ ys) ++ zs ≡ zs
-        last-only xs ys zs none after = ap (λ xs. (xs ++ ys) ++ zs) none ∙ ap (λ ys. ys ++ zs) after
-
-        by-service : (z : Service) → service ≡ z → Leaves ((ns ++ call) ++ packet)
-        by-service Call same =
-            three ns call packet ∙ first-only (news ns) (news call) (news packet) none-news
-            (none-filtered service tei packet (other-link service tei (terms c Packet tei) (ap (λ z. same_service Packet z && tei == tei) same) cleared (link_in (of_link c Call tei place' cleared at).line Packet place')))
-            ∙ ap (λ z. news (told (terms c z tei) cleared (link_in l z place')).notes) (sym same)
-            ∙ ap (λ o. news (told (terms c service tei) cleared (option_map_or (link_in l service) o fresh)).notes) (sym placed)
-        by-service Packet same =
-            three ns call packet ∙ last-only (news ns) (news call) (news packet) none-news
-            (none-filtered service tei call (other-link service tei (terms c Call tei) (ap (λ z. same_service Call z && tei == tei) same) cleared (link_in at Call place')))
-            ∙ ap (λ x. news (told (terms c Packet tei) cleared x).notes) second
-            ∙ ap (λ z. news (told (terms c z tei) cleared (link_in l z place')).notes) (sym same)
-            ∙ ap (λ o. news (told (terms c service tei) cleared (option_map_or (link_in l service) o fresh)).notes) (sym placed)
+    its-own place' gone = grind (arith, has-place, cleared, get_or-set_other, fresh, append-nil, three, none-news, none-filtered, other-link, told)
 
     changed : (o : Option Change) → Moves l.management.places o m.places → has_tei tei (of_change c o t at).line ≡ false
         → Leaves (of_change c o t at).told.notes
@@ -126,9 +93,7 @@ module _ (service : Service) (tei : ℕ) (c : Config) (l : Line) (s : IsSound c 
       (λ parts its to. stays (at_none (group_told its parts.info)) refl) e
 
   pub expiry-gone : (timer : Timer) → Gone (aim_of_expiry timer l)
-  expiry-gone T201 = managed tei_expiry tt
-  expiry-gone T202 = owned terminal_expiry tt
-  expiry-gone timer = grind (arith, stays)
+  expiry-gone timer = grind (arith, managed, owned, stays)
 
   pub request-gone : (r : Request) → IsProper c l (aim_of_request r l) → Gone (aim_of_request r l)
   request-gone (Request.Unit its by contents) proper = stays (aim_of_request (Request.Unit its by contents) l) refl

@@ -1,7 +1,7 @@
 -- Nothing is told as lost in vain: the law.
 use Rattle.laws_trace.proofs.Vocabulary.{◌≡◌, ℕ, ◌+◌, ◌-◌, ◌<◌, ◌≤◌, ◌==◌, ◌&&◌, Bool, true, false, cond, List, [], length, get_or, Option, Some, None, refl, sym, ap, ◌∙◌, subst, ◌⊎◌, inl, inr, arith, eq-eqb, true≢false, fold, le-ltb, and_parts, option_map_or, get_or-set_same, PoolFull, Refusal, Service, Call, place_of-is, is_on-at, service-same, ControlFrame, Config, Aim, at_none, at_link}
 use Rattle.laws_trace.proofs.Vocabulary.{of_aim, aim_of_expiry, aim_of_heard, hears, expiry, request, next, Answer, refused, Line, fresh_line, has_tei, link_of, aim_of, unless_refused, unless_refused_told, at_requested, aim_of_request, heard_aims, IsInRange, lost_in, deactivates, HaveTheirTimers, AllHaveTheirTimers, Card, line_at, is_full, at, fresh_is_sound, has_lines, by_room, line_sound}
-use Rattle.laws_trace.proofs.Vocabulary.{Moment, in_state, not}
+use Rattle.laws_trace.proofs.Vocabulary.{Moment}
 use Rattle.laws_trace.proofs.Vocabulary.{config-stays, at_no_link, Event, refusal, IsSound, after, card_answer as answer, after_all, AreAtLines, always_sound, put_in, managing_is_on as is_on, due, managed_after, Observed, View, by_event, view_of, view_behind, moment_of, is_empty, outgoing_of, seen, trace_of, Always, by-down, fresh, LinkRequest, StreamEvent, CardEvent}
 use Rattle.model_line.specs.Machine as lines
 use Rattle.model_card.specs.Sound as card_sound
@@ -219,10 +219,7 @@ module _ (c : Config) (events : List CardEvent) (number : ℕ) (ranged : IsInRan
           waiting-now c number ranged within service tei events all p.0 p.1 ∙ all-wait c events number ranged all within service tei p.0 p.1
 
       link-is : u.link ≡ by_event c service tei what its-answer v.link
-      link-is =
-          let own = by_event c service tei what its-answer v.link in
-          ap (λ b. cond (not b) (in_state 1) (cond (is_on tei v.teis) (cond (number == number) own v.link) (in_state 4))) (is-on-then ∙ on-then)
-          ∙ ap (λ b. cond b (cond (number == number) own v.link) (in_state 4)) (was-on ∙ on) ∙ ap (λ b. cond b own v.link) (eq-eqb number number refl)
+      link-is = grind (arith, by_event, is-on-then, was-on, eq-eqb)
 
       loses : is_empty (puts_by c number events what service tei) ≡ false
           → lost_in its-answer ≡ length (outgoing_of c service tei number events).waiting + length (puts_by c number events what service tei) - c.control

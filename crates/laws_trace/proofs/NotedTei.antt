@@ -85,10 +85,7 @@ module _ (c : Config) (l : Line) (s : IsSound c l) (tei : ℕ) where
       (λ place left. noted-there (terminal_in l) e kept tei place left)
 
   expired : (b : Bool) → is_terminal c ≡ b → Names (of_terminal c terminals.expiry l)
-  expired true is = by-terminal terminals.expiry is tt tt
-  expired false net =
-      subst (λ (x : Course). Names (of_change c x.told.change (told_of_terminal x.told) (with_terminal x.now l)))
-      (sym (idle_course c l s (subst (λ b. IsOfSide b l.management l.own) net s.own).0)) (λ x. absurd (true≢false (sym x.0 ∙ x.1)))
+  expired b is = grind (arith, by-terminal, idle_course, true≢false)
 
   aim-names : (aim : Aim) → IsProper c l aim → Keeps aim → Names (of_aim c aim l)
   aim-names (at_management e) proper kept = grind (arith, by-terminal, by-network)
@@ -101,8 +98,7 @@ module _ (c : Config) (l : Line) (s : IsSound c l) (tei : ℕ) where
   by-request : (r : Request) (o : Option Refusal) → IsProper c l (unless_refused o (aim_of_request r l)) → named_by r ≡ None
       → Leaves c l s tei (of_aim c (unless_refused o (aim_of_request r l)) l).line
       → first_of (notes_of (unless_refused_told o (of_aim c (unless_refused o (aim_of_request r l)) l))) ≡ Some tei
-  by-request r None proper un = aim-names (aim_of_request r l) proper (grind (arith, none-some))
-  by-request r (Some why) proper un = λ x. absurd (true≢false (sym x.0 ∙ x.1))
+  by-request r o proper un h = grind (arith, aim-names, none-some, true≢false)
 
   no-link : (service : Service) (r : Request) (o : Option Refusal) → named_by r ≡ None → is_at_link service tei (unless_refused o (aim_of_request r l)) ≡ true → ⊥
   no-link service r o un at = grind (arith, none-some, true≢false)

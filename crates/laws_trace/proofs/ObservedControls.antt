@@ -55,11 +55,7 @@ module _ (c : Config) (service : Service) (tei : ℕ) (o q : Observed) (w u : St
 
 -- Where nothing is due of TEI management, of whatever side, the same TEIs are on the line.
 pub none-due : (c : Config) (w : Managed) → (cond (is_terminal c) (nothing_due w) (nothing_due w)).on ≡ w.on
-none-due c w = go (is_terminal c)
-  where
-    go : (b : Bool) → (cond b (nothing_due w) (nothing_due w)).on ≡ w.on
-    go true = refl
-    go false = refl
+none-due c w = grind (arith, nothing_due)
 
 -- What is kept while layer 3 asks for something else.
 module _ (service : Service) (tei : ℕ) where
@@ -76,9 +72,7 @@ module _ (service : Service) (tei : ℕ) where
   still-busy r busy is = grind arith
 
   pub none-led : (c : Config) (r : Request) (w : Managed) → busies r ≡ true → (due c (request r) w).on ≡ w.on
-  none-led c (SetBusy of by) w is = none-due c w
-  none-led c (ClearBusy of by) w is = none-due c w
-  none-led c other w is = grind arith
+  none-led c other w is = grind (arith, none-due)
 
 -- Where no frame comes, and nothing is granted, layer 3 is as busy as before.
 abbrev pub AsBusy : Observed → Observed → Type 0

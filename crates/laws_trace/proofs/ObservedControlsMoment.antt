@@ -1,5 +1,5 @@
 -- The control frames of a link that are due in a moment, by what the observer knows.
-use Rattle.laws_trace.proofs.Vocabulary.{◌≡◌, inl, inr, ℕ, ◌<◌, ◌+◌, ◌-◌, ◌==◌, ◌&&◌, ◌||◌, not, Bool, true, false, cond, length, take, List, [], ◌++◌, Option, Some, None, is_some, refl, sym, ap, ◌∙◌, subst, eq-eqb, arith, le-ltb, true≢false, nat_lt, option_map_or, none-some, Service, Parts, State, state_number, Config, hears, expiry, request, next, Answer, Line, link_of, place_in, state_of}
+use Rattle.laws_trace.proofs.Vocabulary.{◌≡◌, inl, inr, ℕ, ◌<◌, ◌+◌, ◌-◌, ◌==◌, ◌&&◌, ◌||◌, not, Bool, true, false, cond, length, take, List, [], ◌++◌, Option, Some, None, is_some, refl, sym, ap, ◌∙◌, subst, eq-eqb, arith, le-ltb, true≢false, nat_lt, option_map_or, none-some, Service, Parts, State, state_number, Config, hears, expiry, request, next, Answer, link_of, place_in, state_of}
 use Rattle.laws_trace.proofs.Vocabulary.{ControlFrame, lost_in, is_granted, AllHaveTheirTimers, Card, line_at, at, eqb-true, lt-ltb, Request, CardEvent as Event, after, card_answer as answer, Moment, IsAtLine, brought, frame_of, its_frame, managing_is_on as is_on, led, due, Observed, View, in_state, by_event, by_heard, enters, views, is_up, Seen, trace_frame_in as frame_in, seen, seen_told}
 use Rattle.laws_trace.proofs.Vocabulary.{seen_granted, seen_in, CardIsSound as IsSound, StreamEvent}
 use Rattle.model_line.specs.Event as line_event
@@ -91,10 +91,7 @@ module _ (service : Service) (tei number : ℕ) where
 
     -- Another line's event.
     other-puts : line_at number (after e card) ≡ line_at number card → Puts false
-    other-puts same =
-        ap (λ xs. xs ++ cond (differ from to || false) (old.command_of was to) []) (none-mapped from [] refl)
-        ∙ ap (λ (x : Line). cond (differ from (state_of service tei x) || false) (old.command_of was (state_of service tei x)) []) same
-        ∙ ap (λ b. cond (b || false) (old.command_of was from) []) (differ-self from)
+    other-puts same = grind (arith, differ, old.command_of, none-mapped, differ-self)
 
     -- Where the TEI is not on the line.
     module _ (off : from ≡ None) (first : o ≡ in_state 1) where

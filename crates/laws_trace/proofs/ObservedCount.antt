@@ -1,5 +1,5 @@
 -- What an observer knows of this side of a link is how the link stands by what is heard and noted: over runs.
-use Rattle.laws_trace.proofs.Vocabulary.{arith, ◌≡◌, ℕ, ◌+◌, ◌&&◌, ◌||◌, not, Bool, true, false, cond, Some, refl, sym, ap, ◌∙◌, subst, list_any, Service, State, is_multiple_frame, state_number, Config, Answer, Line, link_of, place_in, IsInRange, notes_of, is_data_of, Event, IsSound, brought, Observed, by_event, is_up, answer}
+use Rattle.laws_trace.proofs.Vocabulary.{arith, ◌≡◌, ℕ, Bool, true, false, Some, refl, sym, ap, ◌∙◌, subst, list_any, Service, State, is_multiple_frame, state_number, Config, Answer, Line, link_of, place_in, IsInRange, notes_of, is_data_of, Event, IsSound, brought, Observed, by_event, is_up, answer}
 use Rattle.laws_trace.proofs.Counting.{begins}
 use Rattle.laws_trace.proofs.Deliveries.{frame_by}
 use Rattle.laws_trace.proofs.DeliveriesRun.{IsCount}
@@ -71,21 +71,5 @@ module _ (service : Service) (tei : ℕ) (c : Config) (ranged : IsInRange c) (l 
       h = stood up
 
       go : (u : Bool) → is_up (state_number its) ≡ u → Same q now.told.count now.busy now.rejected
-      go true before =
-          let same = agree (ap is_up is ∙ before) in
-          record {
-            count_is = h.count_is ∙ ap (λ m. cond B 0 (cond D (m + 1) m)) same.count_is;
-            busy_is = h.busy_is ∙ ap (λ b. cond B false (asked_busy service tei e a b)) same.busy_is;
-            rejected_is =
-                h.rejected_is ∙ ap (λ b. cond (B || D) false (cond b true o.rejected)) (grind arith)
-                ∙ ap (λ b. cond (B || D) false (cond (I && not b) true o.rejected)) same.busy_is ∙ ap (λ r. cond (B || D) false (cond (I && not busy) true r)) same.rejected_is;
-          }
-      go false before =
-          let anew : B ≡ true = sym (ap (λ u. u || B) before) ∙ h.before in
-          record {
-            count_is = h.count_is ∙ ap (λ b. cond b 0 (cond D (o.count + 1) o.count)) anew ∙ sym (ap (λ b. cond b 0 (cond D (n + 1) n)) anew);
-            busy_is = h.busy_is ∙ ap (λ b. cond b false (asked_busy service tei e a o.own_busy)) anew ∙ sym (ap (λ b. cond b false (asked_busy service tei e a busy)) anew);
-            rejected_is =
-                h.rejected_is ∙ ap (λ b. cond (b || D) false (cond (I && not (asked_busy service tei e a o.own_busy)) true o.rejected)) anew
-                ∙ sym (ap (λ b. cond (b || D) false (cond (I && not busy) true rejected)) anew);
-          }
+      go true before = grind (arith, is_up, h)
+      go false before = grind (arith, h)

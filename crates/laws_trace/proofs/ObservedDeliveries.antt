@@ -44,11 +44,7 @@ module _ (service : Service) (tei : ℕ) (c : Config) (ranged : IsInRange c) (l 
 
   told-by : (d : Bool) → list_any (is_data_of service tei) (notes_of a) ≡ d → (u : Bool) → list_any (is_unit_of service tei) (notes_of a) ≡ u → (d || u) ≡ true
       → contents_in a ≡ option_map (λ (f : Parts). f.info) (brought c service tei e)
-  told-by true is u unit some =
-      let x = heard.data_is is in x.told ∙ sym (ap (option_map (λ (f : Parts). f.info)) (brought-is e x.frame x.heard x.whose))
-  told-by false is true unit some =
-      let x = heard.unit_is unit in x.told ∙ sym (ap (option_map (λ (f : Parts). f.info)) (brought-is e x.frame x.heard x.whose))
-  told-by false is false unit some = absurd (true≢false (sym some))
+  told-by d is u unit some = grind (arith, heard, option_map, brought-is, true≢false)
 
   with-data : list_any (is_data_of service tei) (notes_of a) ≡ taken_by c service tei o (brought c service tei e) → Told c service tei o (brought c service tei e) a
   with-data is = record {
@@ -105,9 +101,7 @@ same-note n = grind arith
 
 -- Two truths that follow from each other are equal.
 same-truth : (a b : Bool) → (a ≡ true → b ≡ true) → (b ≡ true → a ≡ true) → a ≡ b
-same-truth true b there back = sym (there refl)
-same-truth false true there back = back refl
-same-truth false false there back = refl
+same-truth a b there back = grind arith
 
 pub deliveries-so : Always WhatIsToldWasHeard
 deliveries-so c events number ranged all within service tei before what behind is =

@@ -1,5 +1,5 @@
 -- How often T200 of a link expired, to an observer: it rises by an expiry of it alone.
-use Rattle.laws_trace.proofs.Vocabulary.{◌≡◌, ℕ, ◌==◌, ◌&&◌, ◌||◌, not, Bool, true, false, cond, refl, ap, ◌∙◌, arith, is_some, nat_lt, le-ltb, Service, Config, expiry, Answer, Deactivate, eqb-true, lt-ltb, Event, Request, Establish, Release, SetBusy, ClearBusy, Observed, in_state, awaits, observer_by_request as by_request, by_t200, enquires, enters, by_event, is_own, is_up, or-true}
+use Rattle.laws_trace.proofs.Vocabulary.{◌≡◌, ℕ, ◌==◌, ◌||◌, not, Bool, true, false, cond, refl, ap, ◌∙◌, arith, is_some, nat_lt, le-ltb, Service, Config, expiry, Answer, eqb-true, lt-ltb, Event, Request, Observed, awaits, observer_by_request as by_request, by_t200, enquires, enters, by_event, is_own, is_up, or-true}
 use Rattle.laws_trace.specs.Observer.{asked_for}
 use Rattle.laws_trace.proofs.Vocabulary.{TimerT200 as T200}
 
@@ -18,12 +18,7 @@ either o b p q h i = grind arith
 module _ (o : Observed) where
   module _ (c : Config) (service : Service) (tei : ℕ) where
     asked : (r : Request) → IsNoMore o (by_request service tei r o)
-    asked (Establish of by) = either o (is_own service tei of by && o.state == 4) asked_for o (zero o) (same o)
-    asked (Release of by) = either o (is_own service tei of by && is_up o.state) (in_state 6) o (zero o) (same o)
-    asked (Deactivate of by) = either o (is_own service tei of by) (in_state 4) o (zero o) (same o)
-    asked (SetBusy of by) = either o (is_own service tei of by) (record o { own_busy = true }) o (same o) (same o)
-    asked (ClearBusy of by) = either o (is_own service tei of by) (record o { own_busy = false }) o (same o) (same o)
-    asked other = same o
+    asked other = grind (arith, either, asked_for, same, is_up)
 
     -- by another event than an expiry of T200
     pub no-more : (what : Event) (a : Answer) → ((of : Service) (by : ℕ) → what ≡ expiry (T200 of by) → is_own service tei of by ≡ false) → IsNoMore o (by_event c service tei what a o)

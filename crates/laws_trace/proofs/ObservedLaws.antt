@@ -84,10 +84,7 @@ module _ (c : Config) (events : List Event) (number : ℕ) (ranged : IsInRange c
     known-then = facts c service tei l then_asked x.outstanding r next_line u (holds-behind c events number ranged all within service tei what)
 
 pub links-move-so : Always LinksMove
-links-move-so c events number ranged all within service tei =
-    let card = after_all (fresh c) events in
-    let there = lt-ltb number card.config.lines (subst (λ (d : Config). number < d.lines) (sym (config-stays (fresh c) events)) within) in
-    ap (λ b. cond b (state_of service tei (line_at number card)) None) there ∙ moved-so c events number ranged all within service tei
+links-move-so c events number ranged all within service tei = grind (arith, fresh, lt-ltb, config-stays, moved-so)
 
 pub timers-run-so : Always TimersRun
 timers-run-so c events number ranged all within service tei =

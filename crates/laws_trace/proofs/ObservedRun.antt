@@ -104,8 +104,7 @@ module _ (service : Service) (tei number : ℕ) where
 
     at-rest : (x : Option ℕ) → IsSeen x k asked (cond (is_state 5 x) w.outstanding (not (k.next == k.acknowledged))) n v.link
         → IsSeen x k asked (cond (is_state 5 x) w.outstanding (not (k.next == k.acknowledged))) n (cond (not (is_some x)) (in_state 1) (cond (is_some x) v.link (in_state 4)))
-    at-rest None h = refl
-    at-rest (Some state) h = h
+    at-rest x h = grind arith
 
     by-line : (b : Bool) → (e.line == number) ≡ b → Next b (is_some to) (is_some from)
     by-line true is =

@@ -1,7 +1,7 @@
 -- Where the contents that are granted, and the frames that are heard, are octets, so are those of each frame that
 -- begins: the law.
-use Rattle.laws_trace.proofs.Vocabulary.{◌≡◌, ℕ, zero, suc, ◌<◌, ◌≤◌, Bool, true, false, cond, List, [], ◌∷◌, ◌++◌, drop, get_or, replicate, slice_get, Option, Some, None, IfSome, option_map, refl, sym, ap, ◌∙◌, subst, arith, ◌⊎◌, inl, inr, All, option_or, option_map_or, flat_map-append, get_or-replicate, All-nil, All-head, All-tail, All-append, All-drop, AreOctets, Address, Side, Service}
-use Rattle.laws_trace.proofs.Vocabulary.{action_of, Message, accepted, share, IsOffered, Carries, number_sent, kept-after, given-is-offered, Seq, Link, queue_of, address_at, Given, Terms, Config, request, next, Answer, gave, Line, UnitData, service_at, place_at, place_in, tei_at, link_at, link_in, link_of, terms, fresh_line, Taken, with_unit, unit_frame, first_taken, round, taken, next_of}
+use Rattle.laws_trace.proofs.Vocabulary.{◌≡◌, ℕ, zero, suc, ◌<◌, ◌≤◌, Bool, true, false, cond, List, [], ◌∷◌, ◌++◌, drop, get_or, replicate, slice_get, Option, Some, None, IfSome, option_map, refl, sym, ap, ◌∙◌, subst, arith, ◌⊎◌, inl, inr, All, option_map_or, flat_map-append, get_or-replicate, All-nil, All-head, All-tail, All-append, All-drop, AreOctets, Address, Side, Service}
+use Rattle.laws_trace.proofs.Vocabulary.{action_of, Message, accepted, share, IsOffered, Carries, number_sent, kept-after, given-is-offered, Seq, Link, queue_of, address_at, Given, Terms, Config, request, next, Answer, gave, Line, UnitData, service_at, place_at, place_in, tei_at, link_at, link_in, link_of, terms, fresh_line, Taken, with_unit, unit_frame, taken, next_of}
 use Rattle.laws_trace.proofs.Vocabulary.{line_of, IsInRange, IsSoundAt, IsUnitData, round_below, units_asked, is_granted, IsBy, OfLink, of-links, IsOne, taken-one, has-place, units-wait, number-is, fresh_is_sound, head, unwrap_or, Control, head_of, message_frame, fresh_link, Event, line_after as after, answer, with_message, Request, IsSound, fresh, all-left as all-front, all-right as all-back}
 use Rattle.laws_trace.proofs.Vocabulary.{contents_given, GivesOctets, FramesAreOctets, trace_frame_in as frame_in, Seen, seen_told, seen, frames_begun, Always, units_left, frame_begun, seen_granted, LinkEvent, sapi-small, Sender, spelling, renamed, exchanged-small, own_side, sapi_of, Ui}
 use Rattle.model_link.specs.Machine as links
@@ -116,18 +116,14 @@ module _ (c : Config) (ranged : IsInRange c) (l : Line) (s : IsSound c l) (k : A
   by-unit (u ∷ us) units octets = unit-exact u (All-head (IsUnitData c) u us units).tei (All-head IsUnit u us octets)
 
   taken-exact : IfSome (taken c l) IsExact
-  taken-exact =
-      either IsExact (message_taken c l) (option_or (unit_taken c l) (first_taken c l (round c l))) (by-message (is_terminal c) refl)
-      (either IsExact (unit_taken c l) (first_taken c l (round c l)) (by-unit l.units s.units k.units)
-      (first-exact (first_taken c l (round c l)) (of-links c l s (round c l) (round_below c l))))
+  taken-exact = grind (arith, either, message_taken, unit_taken, by-message, by-unit, first-exact, of-links, round_below)
 
 by-next : (o : Option Taken) → IfSome o (λ t. AreOctets t.frame) → All AreOctets (frame_in (gave (option_map next_of o)))
 by-next o h = grind arith
 
 event-exact : (c : Config) → IsInRange c → (e : Event) (l : Line) → IsSound c l → AreKept l → All AreOctets (frames_begun (seen e (answer c e l)))
 unfolding answer
-event-exact c ranged next l s k = subst (All AreOctets) (sym (given-frames (option_map next_of (taken c l)))) (by-next (taken c l) (taken-exact c ranged l s k))
-event-exact c ranged e l s k = grind (arith, none-requested, none-told)
+event-exact c ranged e l s k = grind (arith, given-frames, option_map, next_of, taken, by-next, taken-exact, none-requested, none-told)
 
 -- What a link keeps, where what is granted are octets.
 granted-seen : (r : Request) (a : Answer) → is_granted a ≡ true → All GivesOctets (seen_granted r a ++ seen_told a) → AreOctets (contents_given r)

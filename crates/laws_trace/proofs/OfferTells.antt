@@ -1,6 +1,6 @@
 -- An offer of a link tells layer 3 nothing.
-use Rattle.laws_trace.proofs.Vocabulary.{arith, ◌≡◌, [], None, ap, Service, Call, Packet, Terms, Link, Course, offer, course, given_up_of, link_told}
-use Rattle.model_link.specs.Told.{of_call, of_packet}
+use Rattle.laws_trace.proofs.Vocabulary.{arith, ◌≡◌, [], None, Service, Terms, Link, Course, offer, course, given_up_of, link_told}
+use Rattle.model_link.specs.Told.{of_packet}
 
 module _ (t : Terms) (x : Link) where
   abbrev pub TellsNothing : Course → Type 0
@@ -11,5 +11,4 @@ module _ (t : Terms) (x : Link) where
 
   -- and gives nothing up
   pub offer-gives_up : (z : Service) → given_up_of z (link_told t offer x) ≡ 0
-  offer-gives_up Call = ap (of_call t.service) offer-tells_nothing.4
-  offer-gives_up Packet = ap (of_packet t.service) offer-tells_nothing.4
+  offer-gives_up z = grind (arith, offer-tells_nothing, of_packet)

@@ -1,7 +1,6 @@
 -- What a link gives next is what an observer has it offer.
 use Rattle.laws_trace.proofs.Vocabulary.{◌≡◌, ℕ, zero, suc, ◌+◌, ◌%◌, ◌<◌, ◌≤◌, ◌==◌, Bool, true, false, cond, List, [], ◌∷◌, drop, length, slice_get, Some, None, refl, sym, ap, ◌∙◌, inl, inr, arith, and_parts, fold, Service, place_of-is, Information, ReceiveReady, seq, given-in-order, given-is-offered, IsInOrder, IsOffered, State, Established, ControlFrame, Terms, Link, is_multiple_frame}
 use Rattle.laws_trace.proofs.Vocabulary.{state_number, Given, Config, Line, link_of, place_in, terms, IsInRange, IsSilent, terms_in_range, line_at, moments, ltb-true, lt-ltb, line_frame_of as frame_of, IsSound, fresh, CardEvent as Event, after_all, AreAtLines, is_seq, text, may_go, offers, View, steps, view_of, Outgoing, outgoing_of, is_up, offer, link_after as after, given}
-use Rattle.lapd_frame.specs.declared.services.Service.TheVariants.{Call, Packet}
 use Rattle.laws_trace.specs.FramesAreDue.{window}
 use Rattle.model_link.specs.Sound as link_sound
 use Rattle.laws_link.specs.Sending.{MayGo}
@@ -22,8 +21,7 @@ use Rattle.laws_trace.proofs.Facts.{some-of, not-so, number-up}
 
 -- The window of a link is that of its service.
 window-is : (c : Config) (service : Service) (tei : ℕ) → window c service ≡ (terms c service tei).k
-window-is c Call tei = refl
-window-is c Packet tei = refl
+window-is c service tei = grind arith
 
 -- What a link offers, one after the other.
 abbrev unsent : Outgoing → List (List ℕ)
@@ -136,9 +134,7 @@ module _ (c : Config) (events : List Event) (number : ℕ) (ranged : IsInRange c
         let small : t.k ≤ 127 = range.k_high in omega (arith, acknowledged-is, next-is, low, high, small)
 
     unsent-is : unsent o ≡ drop own.s own.contents
-    unsent-is =
-        ap (drop (steps o.view.link.acknowledged o.view.link.next)) (kept-now c number ranged within service tei events all place on)
-        ∙ drop-twice own.contents own.a own.s (steps o.view.link.acknowledged o.view.link.next) steps-are
+    unsent-is = grind (arith, steps, kept-now, drop-twice, steps-are)
 
   may-so : MayGo t own → may_go c service o.view.link ≡ true
   may-so may = grind (arith, steps-are, state-is, busy-is, lt-ltb, window-is)

@@ -1,6 +1,5 @@
 -- What an event of a line is to the link of a service with a TEI, at whatever place the TEI is: one event of this link,
 -- its deactivation, or none.
-use Rattle.laws_trace.proofs.Vocabulary.{first_taken, round}
 use Rattle.laws_trace.proofs.Vocabulary.{spelling, cond, with_unit, with_message, taken, information_of, Ui, own_side}
 use Rattle.lapd_tei.specs.Events as teis
 use Rattle.lapd_terminal.specs.Events as terminals
@@ -306,17 +305,13 @@ module _ (c : Config) (l : Line) (s : IsSound c l) (service : Service) (tei : �
       go (Some m) = other-part (with_message l (message_frame c.side m)) refl refl refl (inl (information_of m, message-text c m))
 
   took-unit : (us : List UnitData) → IfSome (option_map (with_unit c l) (slice_get us 0)) Took
-  took-unit [] = tt
-  took-unit (u ∷ us) = other-part (with_unit c l u) refl refl refl (inr (inl (u, refl)))
+  took-unit us = grind (arith, other-part, with_unit)
 
   either : (m rest : Option Taken) → IfSome m Took → IfSome rest Took → IfSome (option_or m rest) Took
-  either None rest x y = y
-  either (Some t) rest x y = x
+  either m rest x y = grind arith
 
   took-any : IfSome (taken c l) Took
-  took-any =
-      either (message_taken c l) (option_or (unit_taken c l) (first_taken c l (round c l))) (took-message (is_terminal c) refl)
-      (either (unit_taken c l) (first_taken c l (round c l)) (took-unit l.units) (took-first (first_taken c l (round c l)) (of-links c l s (round c l) (round_below c l))))
+  took-any = grind (arith, either, message_taken, unit_taken, took-message, took-unit, took-first, of-links, round_below)
 
   -- A call for the next frame.
   abbrev Gave : Line → List (List ℕ) → List Order → Type 0
@@ -329,31 +324,7 @@ module _ (c : Config) (l : Line) (s : IsSound c l) (service : Service) (tei : �
   gave-it o h = grind (arith, All-nil, All-cons)
 
   from-gave : (new : Line) (o : Option NextFrame) → let a = gave o in Gave new (frame_in a) (orders_in a) → Goes c service tei next l new a
-  from-gave new o (inl x) =
-      inl (record {
-        is = inl x.0;
-        stays = λ was there. x.0;
-        aims = refl;
-        orders = quiet new x.0 (orders_in (gave o)) x.2;
-        begins = x.1;
-        gone = λ on off. absurd (true≢false (sym on ∙ sym x.3 ∙ off));
-      })
-  from-gave new o (inr x) =
-      let none = offer-tells_nothing Own (link_of service tei l) in
-      inr (inl (record {
-        place = x.0;
-        placed = x.1;
-        event = link.offer;
-        by = refl;
-        aimed = inl refl;
-        is = x.2;
-        notes = sym none.0;
-        contents = sym (ap (λ d. option_or d (link_told Own link.offer (link_of service tei l)).unit) none.1 ∙ none.2);
-        lost = sym none.3;
-        given_up = none-gave o service ∙ sym (offer-gives_up Own (link_of service tei l) service);
-        orders = x.4;
-        begins = x.3;
-      }))
+  from-gave new o h = grind (arith, stays, quiet, gave, true≢false, offer-tells_nothing, link.offer, link_told, given_up, none-gave, offer-gives_up)
 
   next-goes : Goes c service tei next l (after c next l) (answer c next l)
   unfolding after answer
@@ -378,13 +349,5 @@ event-goes c (request r) l service tei s = go (refusal c false r l) refl
         aim-goes c l s service tei (request r) a refl (aim_of_request r l) (ap (λ o. unless_refused o (aim_of_request r l)) none)
         (subst (λ o. IsProper c l (unless_refused o (aim_of_request r l))) none (request_proper c l r)) (request-ties c l a refl r) (refl, refl, refl, refl, λ z. refl)
         (request-silent c l r)
-    go (Some why) some =
-        inl (record {
-          is = inl refl;
-          stays = λ was there. refl;
-          aims = ap (λ o. is_at_link service tei (unless_refused o (aim_of_request r l))) some;
-          orders = sym (none-ordered (terms c service tei) (link_of service tei l).running);
-          begins = All-nil (IsForeign c service tei);
-          gone = λ on off. absurd (true≢false (sym on ∙ off));
-        })
+    go (Some why) some = grind (arith, stays, none-ordered, All-nil, true≢false)
 event-goes c next l service tei s = next-goes c l s service tei

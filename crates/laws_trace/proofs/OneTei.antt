@@ -1,7 +1,7 @@
 -- All that an event of a line gives up is of one TEI.
-use Rattle.laws_trace.proofs.Vocabulary.{◌≡◌, ℕ, ◌<◌, ◌==◌, ◌&&◌, ◌||◌, Bool, true, false, cond, not, get_or, set, Option, Some, None, refl, sym, ap, ◌∙◌, subst, ◌⊎◌, inl, inr, ⊎_elim, arith, true≢false, and_parts, eq-eqb, eqb-true, none-some, some-same, get_or-set_other, get_or-set_same}
-use Rattle.laws_trace.proofs.Vocabulary.{Service, Config, Answer, PoolFull, refused, Line, fresh_line, has_tei, place_in, aim_of, aim_of_heard, aim_of_expiry, aim_of_request, unless_refused, refusal, IsProper, heard_proper, expiry_proper, request_proper, same_service, IsAt, Management, Change, Gained, Left, HasLeft, IsSoundTable, Moves, place_of-is, is_on-at, is-off}
-use Rattle.laws_trace.proofs.Vocabulary.{Aim, at_none, at_link, at_management, at_units, at_no_link, of_aim, of_change, LineTold, IsSound, IsInRange, by-down, hears, expiry, request, next, Event, seen, Card, line_at, is_full, at, has_lines, by_room, line_sound, after, card_answer as answer, CardIsSound}
+use Rattle.laws_trace.proofs.Vocabulary.{◌≡◌, ℕ, ◌<◌, ◌==◌, ◌&&◌, ◌||◌, Bool, true, false, cond, not, get_or, set, Option, Some, None, refl, sym, ap, ◌∙◌, ◌⊎◌, inl, inr, ⊎_elim, arith, true≢false, and_parts, eq-eqb, eqb-true, none-some, some-same, get_or-set_other, get_or-set_same}
+use Rattle.laws_trace.proofs.Vocabulary.{Service, Config, Answer, PoolFull, refused, Line, has_tei, place_in, aim_of, aim_of_heard, aim_of_expiry, aim_of_request, unless_refused, refusal, IsProper, heard_proper, expiry_proper, request_proper, IsAt, Management, Change, Gained, Left, HasLeft, IsSoundTable, Moves, place_of-is, is_on-at, is-off}
+use Rattle.laws_trace.proofs.Vocabulary.{Aim, at_none, at_link, at_management, at_units, at_no_link, of_aim, of_change, LineTold, IsSound, IsInRange, by-down, hears, expiry, request, next, Event, seen, Card, line_at, at, has_lines, by_room, line_sound, after, card_answer as answer, CardIsSound}
 use Rattle.model_line.specs.Effect.{at_terminal, of_network, of_terminal, told_of_management, told_of_terminal}
 use Rattle.model_line.specs.Line.{Own}
 use Rattle.model_line.specs.Machine as lines
@@ -16,7 +16,7 @@ use Rattle.lapd_terminal.specs.Events as terminals
 use Rattle.lapd_frame.specs.declared.refusals.Refusal.{Refusal}
 use Rattle.model_link.specs.Events as link
 use Rattle.model_line.specs.Line.{is_terminal, terminal_in, with_terminal}
-use Rattle.model_line.specs.Request.{Request, Establish, Release, Data, Unit, Assign, Remove, Check, Disown, AskTei, VerifyTei, SetBusy, ClearBusy, Deactivate, Down}
+use Rattle.model_line.specs.Request.{Request}
 use Rattle.model_line.specs.Requested.{at_requested, at_deactivated}
 use Rattle.laws_trace.specs.GivenUpIsTold.{named_by}
 use Rattle.laws_trace.proofs.ManagingTables.{on-leaving}
@@ -63,9 +63,7 @@ module _ (c : Config) (l : Line) (s : IsSound c l) where
   left-by tei (Some (Left its place)) m gone on off = (place, ap (λ n. Some (Left n place)) (left-is tei its place m gone on off))
 
   pub change-stays : (tei : ℕ) (o : Option Change) (t : LineTold) (k : Line) → has_tei tei (of_change c o t k).line ≡ has_tei tei k
-  change-stays tei None t k = refl
-  change-stays tei (Some (Gained n place)) t k = refl
-  change-stays tei (Some (Left n place)) t k = refl
+  change-stays tei o t k = grind arith
 
   -- and so there is one at most,
   same-left : (tei by p q : ℕ) (o : Option Change) → o ≡ Some (Left tei p) → o ≡ Some (Left by q) → tei ≡ by
@@ -96,29 +94,15 @@ module _ (c : Config) (l : Line) (s : IsSound c l) where
 
   -- As an event is one of a link, no TEI leaves.
   aim-stays : (service : Service) (tei by : ℕ) (aim : Aim) → is_at_link service tei aim ≡ true → Leaves by (of_aim c aim l).line → ⊥
-  aim-stays service tei by (at_link its n place event) its-own x = true≢false (sym x.0 ∙ x.1)
-  aim-stays service tei by (at_none what) no-link x = true≢false (sym no-link)
-  aim-stays service tei by (at_management me) no-link x = true≢false (sym no-link)
-  aim-stays service tei by (at_terminal te) no-link x = true≢false (sym no-link)
-  aim-stays service tei by (at_units unit) no-link x = true≢false (sym no-link)
-  aim-stays service tei by at_no_link no-link x = true≢false (sym no-link)
+  aim-stays service tei by aim its-own x = grind (arith, true≢false)
 
   pub link-stays : (service : Service) (tei by : ℕ) (e : Event) → is_at_link service tei (aim_of c e l) ≡ true → Leaves by (lines.after c e l) → ⊥
   unfolding lines.after
-  link-stays service tei by (hears what) = aim-stays service tei by (aim_of_heard c l what)
-  link-stays service tei by (expiry timer) = aim-stays service tei by (aim_of_expiry timer l)
-  link-stays service tei by (request r) = aim-stays service tei by (unless_refused (refusal c false r l) (aim_of_request r l))
-  link-stays service tei by next = λ none x. true≢false (sym none)
+  link-stays service tei by e h h' = grind (arith, aim-stays, true≢false)
 
   -- and it is of one TEI.
   one-link : (service other : Service) (tei by : ℕ) (aim : Aim) → is_at_link service tei aim ≡ true → is_at_link other by aim ≡ true → tei ≡ by
-  one-link service other tei by (at_link its n place event) x y =
-      sym (eqb-true n tei (and_parts (same_service its service) (n == tei) x).1) ∙ eqb-true n by (and_parts (same_service its other) (n == by) y).1
-  one-link service other tei by (at_none what) none y = absurd (true≢false (sym none))
-  one-link service other tei by (at_management me) none y = absurd (true≢false (sym none))
-  one-link service other tei by (at_terminal te) none y = absurd (true≢false (sym none))
-  one-link service other tei by (at_units unit) none y = absurd (true≢false (sym none))
-  one-link service other tei by at_no_link none y = absurd (true≢false (sym none))
+  one-link service other tei by aim x y = grind (arith, eqb-true, and_parts, true≢false)
 
 -- Whether the link of a TEI gives up what it keeps.
 abbrev pub ending : Service → ℕ → Event → Line → Line → Answer → Bool
@@ -165,11 +149,7 @@ module _ (m : Management) (by x : ℕ) where
 
   removed : IsSoundTable m.places → (is_on x (teis.after (teis.remove by) m).places ≡ is_on x m.places) ⊎ (is_on x (teis.after (teis.remove by) m).places ≡ (not (x == by) && is_on x m.places))
   unfolding teis.course
-  removed sound = go (teis.refusal (teis.remove by) m)
-    where
-      go : (o : Option Refusal) → let new = (teis.unless_refused o (rows.take_off by) m).now.places in (is_on x new ≡ is_on x m.places) ⊎ (is_on x new ≡ (not (x == by) && is_on x m.places))
-      go None = inr (ap (is_on x) off-places ∙ on-leaving m.places by x sound)
-      go (Some why) = inl refl
+  removed sound = grind (arith, off-places, on-leaving)
 
 module _ (t : Terminal) (by x : ℕ) where
   off-there : (terminals.unless_refused None (terminal_rows.take_off by) t).now.places ≡ freed t.places (place_of by t.places)
@@ -177,58 +157,31 @@ module _ (t : Terminal) (by x : ℕ) where
 
   removed-there : IsSoundTable t.places → (is_on x (terminals.after (terminals.remove by) t).places ≡ is_on x t.places) ⊎ (is_on x (terminals.after (terminals.remove by) t).places ≡ (not (x == by) && is_on x t.places))
   unfolding terminals.course
-  removed-there sound = go (terminals.refusal (terminals.remove by) t)
-    where
-      go : (o : Option Refusal) → let new = (terminals.unless_refused o (terminal_rows.take_off by) t).now.places in (is_on x new ≡ is_on x t.places) ⊎ (is_on x new ≡ (not (x == by) && is_on x t.places))
-      go None = inr (ap (is_on x) off-there ∙ on-leaving t.places by x sound)
-      go (Some why) = inl refl
+  removed-there sound = grind (arith, off-there, on-leaving)
 
 -- What a request that names a TEI gives up is of this TEI.
 module _ (c : Config) (l : Line) (s : IsSound c l) (service : Service) (tei by : ℕ) where
   at-requested : (its : Service) (n : ℕ) (q : link.Request) (p : Option ℕ) → is_at_link service tei (at_requested its n q p) ≡ true → tei ≡ n
-  at-requested its n q (Some p) x = sym (eqb-true n tei (and_parts (same_service its service) (n == tei) x).1)
-  at-requested its n q None x = absurd (true≢false (sym x))
+  at-requested its n q p x = grind (arith, eqb-true, and_parts, true≢false)
 
   at-deactivated : (its : Service) (n : ℕ) (p : Option ℕ) → is_at_link service tei (at_deactivated its n p) ≡ true → tei ≡ n
-  at-deactivated its n (Some p) x = sym (eqb-true n tei (and_parts (same_service its service) (n == tei) x).1)
-  at-deactivated its n None x = absurd (true≢false (sym x))
+  at-deactivated its n p x = grind (arith, eqb-true, and_parts, true≢false)
 
   at-named : (r : Request) (o : Option Refusal) → named_by r ≡ Some by → is_at_link service tei (unless_refused o (aim_of_request r l)) ≡ true → tei ≡ by
-  at-named r (Some why) named x = absurd (true≢false (sym x))
-  at-named (Establish its n) None named x = at-requested its n link.Establish (place_in l n) x ∙ some-same n by named
-  at-named (Release its n) None named x = at-requested its n link.Release (place_in l n) x ∙ some-same n by named
-  at-named (Data its n contents) None named x = at-requested its n (link.Data contents) (place_in l n) x ∙ some-same n by named
-  at-named (SetBusy its n) None named x = at-requested its n link.SetBusy (place_in l n) x ∙ some-same n by named
-  at-named (ClearBusy its n) None named x = at-requested its n link.ClearBusy (place_in l n) x ∙ some-same n by named
-  at-named (Deactivate its n) None named x = at-deactivated its n (place_in l n) x ∙ some-same n by named
-  at-named (Remove n) None named x = absurd (true≢false (sym x))
-  at-named (Unit its n contents) None named x = absurd (none-some by named)
-  at-named (Assign n) None named x = absurd (none-some by named)
-  at-named (Check n) None named x = absurd (none-some by named)
-  at-named (Disown n) None named x = absurd (none-some by named)
-  at-named AskTei None named x = absurd (none-some by named)
-  at-named (VerifyTei n) None named x = absurd (none-some by named)
-  at-named Down None named x = absurd (none-some by named)
+  at-named r o named x = grind (arith, true≢false, at-requested, some-same, at-deactivated, none-some)
 
   abbrev Goes : Aim → Type 0
   Goes aim = Leaves c l s tei (of_aim c aim l).line
 
   stays-requested : (its : Service) (n : ℕ) (q : link.Request) (p : Option ℕ) → Goes (at_requested its n q p) → ⊥
-  stays-requested its n q (Some p) x = true≢false (sym x.0 ∙ x.1)
-  stays-requested its n q None x = true≢false (sym x.0 ∙ x.1)
+  stays-requested its n q p x = grind (arith, true≢false)
 
   stays-deactivated : (its : Service) (n : ℕ) (p : Option ℕ) → Goes (at_deactivated its n p) → ⊥
-  stays-deactivated its n (Some p) x = true≢false (sym x.0 ∙ x.1)
-  stays-deactivated its n None x = true≢false (sym x.0 ∙ x.1)
+  stays-deactivated its n p x = grind (arith, true≢false)
 
   -- The one that is removed is it.
   it-is : (n : ℕ) (now : Bool) → has_tei tei l ≡ true → now ≡ false → (now ≡ has_tei tei l) ⊎ (now ≡ (not (tei == n) && has_tei tei l)) → tei ≡ n
-  it-is n now on off (inl same) = absurd (true≢false (sym on ∙ sym same ∙ off))
-  it-is n now on off (inr gone) = go (tei == n) refl
-    where
-      go : (b : Bool) → (tei == n) ≡ b → tei ≡ n
-      go true is = eqb-true tei n is
-      go false other = absurd (true≢false (sym on ∙ sym (gone ∙ ap (λ b. not b && has_tei tei l) other) ∙ off))
+  it-is n now on off h = grind (arith, true≢false, eqb-true)
 
   removed-is : (n : ℕ) → Goes (at_management (teis.remove n)) → tei ≡ n
   removed-is n x = go (is_terminal c) x.1
@@ -244,26 +197,11 @@ module _ (c : Config) (l : Line) (s : IsSound c l) (service : Service) (tei by :
           (removed l.management n tei s.management.table)
 
   left-named : (r : Request) (o : Option Refusal) → named_by r ≡ Some by → Goes (unless_refused o (aim_of_request r l)) → tei ≡ by
-  left-named r (Some why) named x = absurd (true≢false (sym x.0 ∙ x.1))
-  left-named (Establish its n) None named x = absurd (stays-requested its n link.Establish (place_in l n) x)
-  left-named (Release its n) None named x = absurd (stays-requested its n link.Release (place_in l n) x)
-  left-named (Data its n contents) None named x = absurd (stays-requested its n (link.Data contents) (place_in l n) x)
-  left-named (SetBusy its n) None named x = absurd (stays-requested its n link.SetBusy (place_in l n) x)
-  left-named (ClearBusy its n) None named x = absurd (stays-requested its n link.ClearBusy (place_in l n) x)
-  left-named (Deactivate its n) None named x = absurd (stays-deactivated its n (place_in l n) x)
-  left-named (Remove n) None named x = removed-is n x ∙ some-same n by named
-  left-named (Unit its n contents) None named x = absurd (none-some by named)
-  left-named (Assign n) None named x = absurd (none-some by named)
-  left-named (Check n) None named x = absurd (none-some by named)
-  left-named (Disown n) None named x = absurd (none-some by named)
-  left-named AskTei None named x = absurd (none-some by named)
-  left-named (VerifyTei n) None named x = absurd (none-some by named)
-  left-named Down None named x = absurd (none-some by named)
+  left-named r o named x = grind (arith, true≢false, stays-requested, stays-deactivated, removed-is, some-same, none-some)
 
   asked-named : (r : Request) → named_by r ≡ Some by → (is_at_link service tei (aim_of c (request r) l) ≡ true) ⊎ Leaves c l s tei (lines.after c (request r) l) → tei ≡ by
   unfolding lines.after
-  asked-named r named (inl x) = at-named r (refusal c false r l) named x
-  asked-named r named (inr x) = left-named r (refusal c false r l) named x
+  asked-named r named h = grind (arith, at-named, left-named)
 
 -- What holds of an event of a line, and of one that is refused as the pool is full, holds at a card.
 module _ (card : Card) (number : ℕ) (what : Event) (s : CardIsSound card) (here : number < card.config.lines) (P : Line → Answer → Type 0) where
@@ -273,23 +211,15 @@ module _ (card : Card) (number : ℕ) (what : Event) (s : CardIsSound card) (her
   pub at-card : (lines.takes_slot card.config what its ≡ true → P its (refused PoolFull))
       → (IsSound card.config its → P (lines.after card.config what its) (lines.answer card.config what its))
       → P (line_at number (after (card_event.at number what) card)) (answer (card_event.at number what) card)
-  at-card full room =
-      by_room (λ ls b. P (get_or ls number (fresh_line card.config)) b) (card_event.at number what) card
-      (λ none. full (and_parts (lines.takes_slot card.config what its) (is_full card) none).0)
-      (λ some.
-      subst (λ (x : Line). P x (lines.answer card.config what its)) (sym (get_or-set_same card.lines number (lines.after card.config what its) (fresh_line card.config) (omega (arith, s.count, here))))
-      (room (line_sound card number (has_lines card s) here)))
+  at-card full room = grind (arith, by_room, card_event.at, and_parts, lines.answer, get_or-set_same, lines.after, line_sound, has_lines)
 
 -- A full pool gives up nothing.
 stays-so : (b : Bool) → (b && (false || not b)) ≡ false
-stays-so true = refl
-stays-so false = refl
+stays-so b = grind arith
 
 pub full-ends : (service : Service) (tei : ℕ) (card : Card) (number : ℕ) (what : Event) → lines.takes_slot card.config what (line_at number card) ≡ true
     → ending service tei what (line_at number card) (line_at number card) (refused PoolFull) ≡ false
-full-ends service tei card number what takes =
-    ap (λ shown. has_tei tei (line_at number card) && (lost_in service tei shown || not (has_tei tei (line_at number card)))) (nothing-seen card.config what (line_at number card) takes)
-    ∙ stays-so (has_tei tei (line_at number card))
+full-ends service tei card number what takes = grind (arith, lost_in, nothing-seen, stays-so)
 
 -- Two links that give up what they keep are of one TEI: at a line, and at a card.
 module _ (service other : Service) (tei by : ℕ) where

@@ -21,10 +21,6 @@ other-ordered t e x service tei other = let c = course t e x in of-event t servi
 pub own-ordered : (t : Terms) (before started after : Option LinkTimer) → its_orders t.service t.tei (orders_for t before started after) ≡ orders_for t before started after
 own-ordered t before started after = of-event t t.service t.tei true (its-own t.service t.tei) before started after
 
--- As the line is down none of a link is ordered with the check,
-pub stop-orders-none : (service : Service) (tei : ℕ) (o : Option Check) → its_orders service tei (stop_of o) ≡ []
-stop-orders-none service tei o = grind arith
-
 -- nor by TEI management.
 one-order-none : (service : Service) (tei : ℕ) (o : Order) → IsOfLine o → is_order_of service tei o ≡ false
 one-order-none service tei o h = grind arith

@@ -1,5 +1,5 @@
 -- Whose frames a card hears, and whose it sends: the law.
-use Rattle.laws_trace.proofs.Vocabulary.{arith, ◌≡◌, ℕ, ◌==◌, true, List, slice_index, Result, Ok, ap, ◌∙◌, subst, IfOk, Address, Side, Network, User, ReadFault, Parts, cr_bit, other_side, header_of, completed, side_reading, reading, Sender, parts_named, named-ok, own_side, heard_side, Control}
+use Rattle.laws_trace.proofs.Vocabulary.{arith, ◌≡◌, ℕ, ◌==◌, true, List, slice_index, Result, Ok, ap, subst, IfOk, Address, Side, Network, User, ReadFault, Parts, cr_bit, other_side, header_of, completed, side_reading, reading, Sender, named-ok, own_side, heard_side, Control}
 use Rattle.laws_trace.specs.OtherSide.{bit_in, TheOtherSideIsHeard}
 
 -- A frame that is read is a command by its C/R bit.
@@ -33,8 +33,7 @@ module _ (side : Side) (octets : List ℕ) where
 -- That of commands, by the side whose frames are read.
 of-side : (sender : Sender) (is : Side) (octets : List ℕ) (frame : Parts) → sender.side ≡ is → reading sender octets ≡ Ok frame → frame.address.command ≡ (bit_in octets == cr_bit is true)
 unfolding reading
-of-side sender is octets frame same read =
-    by-bit sender.side octets (parts_named sender.sapi frame) (named-ok sender.sapi (side_reading sender.side octets) frame read) ∙ ap (λ side. bit_in octets == cr_bit side true) same
+of-side sender is octets frame same read = grind (arith, by-bit, named-ok)
 
 pub the-other-side-is-heard : TheOtherSideIsHeard
 the-other-side-is-heard = record {

@@ -1,10 +1,8 @@
 -- What holds of a frame with an address and a control field, and of every fault, holds of what is read of its spelling, whether
 -- the grammar has it or not.
-use Rattle.laws_trace.proofs.Vocabulary.{refl}
 use Rattle.laws_trace.proofs.Vocabulary.{arith, ◌≡◌, ℕ, Bool, true, false, cond, List, slice_index, Result, Ok, Err, Some, sym, subst, Address, Side, Sender, Ui, ReadFault, BadExtension, Parts, side_spelling, spelling, checked, header_of, completed, side_reading, reading, named_by, fault_named, renamed, renamed-back, management-spelled, address-again, control-again, Control, Config, own_side}
 use Rattle.laws_trace.proofs.Vocabulary.{Message, message_frame, information_of, Option, ap, ◌∙◌}
-use Rattle.std.proofs.lemmas.Bool.{false≢true}
-use Rattle.lapd_frame.specs.declared.addresses.Side.TheVariants.{User, Network}
+use Rattle.lapd_frame.specs.declared.addresses.Side.TheVariants.{User}
 use Rattle.lapd_terminal.specs.declared.messages.Message.{Message as OwnMessage}
 use Rattle.lapd_terminal.specs.Messages.{frame_of as own_frame_of, information_of as own_information_of}
 use Rattle.model_line.specs.Line.{is_at, is_terminal}
@@ -35,8 +33,7 @@ message-text c m = management-spelled (own_side c) true 127 (Ui false) (informat
 
 -- So is one of a terminal's.
 user-side : (side : Side) (seed : Option ℕ) → is_at side seed ≡ true → side ≡ User
-user-side User seed is = refl
-user-side Network seed is = absurd (false≢true is)
+user-side side seed is = grind arith
 
 pub own-text : (c : Config) (m : OwnMessage) → is_terminal c ≡ true
     → own_frame_of m ≡ spelling (own_side c) (record { address = record { sapi = 63; command = true; tei = 127 }; control = Ui false; info = own_information_of m })

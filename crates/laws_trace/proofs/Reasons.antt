@@ -1,8 +1,8 @@
 -- Why a request is refused: the first row of the table that holds is the first reason to an observer.
-use Rattle.laws_trace.proofs.Vocabulary.{◌≡◌, ℕ, ◌==◌, ◌&&◌, ◌||◌, ◌<◌, Bool, true, false, true≢false, lt-ltb, le-ltb, arith, not, cond, nat_le, nat_lt, List, length, Option, Some, None, is_some, option_map, refl, sym, ap, ◌∙◌, subst, Config, Line, has_tei, link_of, queue_of, Card, line_at}
-use Rattle.laws_trace.proofs.Vocabulary.{is_full, refusal, fresh, after_all, AreAtLines, IsInRange, units_of, config-stays, length-map, unit_frame, Side, User, Network, Refusal, Link, state_number, is_multiple_frame, is_up, view_of, outgoing_of}
+use Rattle.laws_trace.proofs.Vocabulary.{◌≡◌, ℕ, ◌&&◌, ◌||◌, ◌<◌, Bool, true, false, true≢false, lt-ltb, le-ltb, arith, not, cond, nat_le, nat_lt, List, length, Option, Some, None, is_some, option_map, refl, sym, ap, ◌∙◌, subst, Config, Line, has_tei, link_of, queue_of, Card, line_at}
+use Rattle.laws_trace.proofs.Vocabulary.{is_full, refusal, fresh, after_all, AreAtLines, IsInRange, units_of, config-stays, length-map, unit_frame, Side, Refusal, Link, state_number, is_multiple_frame, is_up, view_of, outgoing_of}
 use Rattle.laws_trace.proofs.Vocabulary.{Service, IsSound, last_unit_tei, used, manages, has_management, Managed, managed_after, managing_is_on as is_on, CardEvent as Event, free_place, Request, request}
-use Rattle.lapd_frame.specs.declared.refusals.Refusal.TheVariants.{BadTei, NoLink, WrongState, TooLong, QueueFull, PoolFull, WrongSide, TeiTaken, TableFull, CheckRunning, ControlFull}
+use Rattle.lapd_frame.specs.declared.refusals.Refusal.TheVariants.{BadTei, NoLink, WrongState, TooLong, QueueFull, PoolFull, TeiTaken, TableFull}
 use Rattle.lapd_tei.specs.declared.check.Check as check
 use Rattle.model_line.specs.Line.{is_at, is_terminal}
 use Rattle.model_line.specs.Sides.{is_network}
@@ -25,16 +25,13 @@ use Rattle.laws_trace.proofs.SlotsTaken.{taken-is}
 use Rattle.laws_trace.proofs.UnitsGoOut.{waiting-is}
 
 last-is : (side : Side) → last_unit_tei side ≡ cond (manages side) 127 126
-last-is Network = refl
-last-is User = refl
+last-is side = grind arith
 
 network-is : (side : Side) → is_network side ≡ manages side
-network-is Network = refl
-network-is User = refl
+network-is side = grind arith
 
 mapped : (o : Option check.Check) → is_some o ≡ is_some (option_map seen_check o)
-mapped None = refl
-mapped (Some x) = refl
+mapped o = grind arith
 
 -- Where each test is another one, the first reason is the same.
 abbrev if_so : Bool → Refusal → Option Refusal → Option Refusal
@@ -45,17 +42,14 @@ if-same a b why x y tests others = ap (λ b. if_so b why x) tests ∙ ap (if_so 
 
 -- The others may need that the first does not hold.
 unless-same : (a b : Bool) (why : Refusal) (x y : Option Refusal) → a ≡ b → (b ≡ false → x ≡ y) → if_so a why x ≡ if_so b why y
-unless-same a true why x y tests others = ap (λ b. if_so b why x) tests
-unless-same a false why x y tests others = ap (λ b. if_so b why x) tests ∙ others refl
+unless-same a b why x y tests others = grind arith
 
 is-so : (b : Bool) → not b ≡ false → b ≡ true
-is-so true e = refl
-is-so false e = absurd (true≢false e)
+is-so b e = grind (arith, true≢false)
 
 -- The network's side is no terminal.
 network-alone : (side : Side) (seed : Option ℕ) → manages side ≡ true → is_at side seed ≡ false
-network-alone Network seed is = refl
-network-alone User seed is = absurd (true≢false (sym is))
+network-alone side seed is = grind (arith, true≢false)
 
 module _ (c : Config) (events : List Event) (number : ℕ) (ranged : IsInRange c) (all : AreAtLines (fresh c) events) (within : number < c.lines) where
   abbrev card : Card
@@ -90,11 +84,7 @@ module _ (c : Config) (events : List Event) (number : ℕ) (ranged : IsInRange c
   never-full is = let both = subst (λ b. IsOfSide b l.management l.own) is sound.own in ap (λ ms. nat_le 4 (length ms)) both.1.waiting
 
   full-there : nat_le 4 (length l.management.waiting) ≡ (not (is_terminal c) && nat_le 4 (length w.owed))
-  full-there = go (is_terminal c) refl
-    where
-      go : (b : Bool) → is_terminal c ≡ b → nat_le 4 (length l.management.waiting) ≡ (not b && nat_le 4 (length w.owed))
-      go true is = never-full is
-      go false net = full-is net
+  full-there = grind (arith, nat_le, never-full, full-is)
 
   procedure-is : is_terminal c ≡ true → is_some l.own.procedure ≡ is_some (own_of c w).procedure
   procedure-is is = sym (ap (λ (t : OfTerminal). is_some t.procedure) (knows.terminal is))
@@ -129,42 +119,25 @@ module _ (c : Config) (events : List Event) (number : ℕ) (ranged : IsInRange c
   Same r = refusal c (is_full card) r l ≡ refusal_due c events number (request r)
 
   unit-same : (service : Service) (tei : ℕ) (contents : List ℕ) → Same (Unit service tei contents)
-  unit-same service tei contents =
-      if-same _ _ BadTei _ _ (ap (λ n. nat_lt n tei) (last-is c.side))
-      (if-same _ _ NoLink _ _ (ap (λ b. not (tei == 127) && not b) (on-line tei))
-      (if-same _ _ TooLong _ _ refl (if-same _ _ QueueFull _ _ (ap (nat_le c.unit_queue) units-are) (if-same _ _ PoolFull _ _ slots-are refl))))
+  unit-same service tei contents = grind (arith, if-same, nat_lt, last-is, on-line, nat_le, units-are, slots-are)
 
   assign-same : (tei : ℕ) → Same (Assign tei)
   assign-same tei = if-same _ _ BadTei _ _ refl (if-same _ _ TeiTaken _ _ (on-line tei) (if-same _ _ TableFull _ _ (ap not places-are) refl))
 
   remove-same : (tei : ℕ) → Same (Remove tei)
-  remove-same tei =
-      if-same _ _ WrongSide _ _ wrong-side
-      (if-same _ _ BadTei _ _ refl (if-same _ _ NoLink _ _ (ap not (on-line tei)) (if-same _ _ ControlFull _ _ full-there refl)))
+  remove-same tei = grind (arith, if-same, wrong-side, on-line, full-there)
 
   check-same : (tei : ℕ) → Same (Check tei)
-  check-same tei =
-      unless-same _ _ WrongSide _ _ not-network (λ managed.
-      if-same _ _ BadTei _ _ refl
-      (if-same _ _ NoLink _ _ (ap not (on-line tei))
-      (if-same _ _ CheckRunning _ _ (checks (at-network managed)) (if-same _ _ ControlFull _ _ (full-is (at-network managed)) refl))))
+  check-same tei = grind (arith, unless-same, not-network, if-same, on-line, checks, at-network, full-is)
 
   disown-same : (tei : ℕ) → Same (Disown tei)
-  disown-same tei =
-      unless-same _ _ WrongSide _ _ not-network (λ managed.
-      if-same _ _ BadTei _ _ refl
-      (if-same _ _ TeiTaken _ _ (sym (used-same w.on l.management.places knows.on tei)) (if-same _ _ ControlFull _ _ (full-is (at-network managed)) refl)))
+  disown-same tei = grind (arith, unless-same, not-network, if-same, used-same, knows, full-is, at-network)
 
   ask-same : Same AskTei
-  ask-same =
-      unless-same _ _ WrongSide _ _ refl (λ is.
-      if-same _ _ TableFull _ _ (ap not places-are) (if-same _ _ CheckRunning _ _ (procedure-is (is-so (is_terminal c) is)) refl))
+  ask-same = grind (arith, unless-same, if-same, places-are, procedure-is, is-so)
 
   verify-same : (tei : ℕ) → Same (VerifyTei tei)
-  verify-same tei =
-      unless-same _ _ WrongSide _ _ refl (λ is.
-      if-same _ _ BadTei _ _ refl
-      (if-same _ _ NoLink _ _ (ap not (on-line tei)) (if-same _ _ CheckRunning _ _ (procedure-is (is-so (is_terminal c) is)) refl)))
+  verify-same tei = grind (arith, unless-same, if-same, on-line, procedure-is, is-so)
 
   -- What is asked of a link by its state, if its TEI is on the line.
   of-link : (tei : ℕ) (x y : Option Refusal) → (has_tei tei l ≡ true → x ≡ y)
@@ -188,12 +161,10 @@ module _ (c : Config) (events : List Event) (number : ℕ) (ranged : IsInRange c
     not-up on = ap not (sym (ap is_up (state-seen on) ∙ number-up own.state))
 
     establish-same : Same (Establish service tei)
-    establish-same =
-        of-link tei _ _ (λ on. if-same _ _ WrongState _ _ (ap not (sym (ap (λ n. n == 4) (state-seen on) ∙ serves-establish own.state))) refl)
+    establish-same = grind (arith, of-link, if-same, state-seen, serves-establish)
 
     release-same : Same (Release service tei)
-    release-same =
-        of-link tei _ _ (λ on. if-same _ _ WrongState _ _ (ap not (sym (ap (λ n. is_up n || n == 4) (state-seen on) ∙ serves-release own.state))) refl)
+    release-same = grind (arith, of-link, if-same, is_up, state-seen, serves-release)
 
     data-same : (contents : List ℕ) → Same (Data service tei contents)
     data-same contents =

@@ -35,18 +35,10 @@ no-frame a so = grind arith
 
 -- What each request is to a link, as it stands.
 pub not-at : (s n : ℕ) → n < 7 → is_up s ≡ true → (s == n) ≡ false
-not-at s n less up = go (s == n) refl
-  where
-    go : (b : Bool) → (s == n) ≡ b → b ≡ false
-    go false is = refl
-    go true is = let most = leb-true 7 s up in let same = eqb-true s n is in absurd (omega (arith, less, most, same))
+not-at s n less up = grind (arith, leb-true, eqb-true)
 
 pub not-below : (s : ℕ) → is_up s ≡ true → nat_le s 4 ≡ false
-not-below s up = go (nat_le s 4) refl
-  where
-    go : (b : Bool) → nat_le s 4 ≡ b → b ≡ false
-    go false is = refl
-    go true is = let most = leb-true 7 s up in let few = leb-true s 4 is in absurd (omega (arith, most, few))
+not-below s up = grind (arith, nat_le, leb-true)
 
 abbrev pub put_by : Observed → Observed → List ControlFrame
 put_by was now = changed was now ++ (cond (enters was now) (command_of now) [])
@@ -67,9 +59,7 @@ pub no-entry : (w : Observed) (busy : Bool) → enters w (record w { own_busy = 
 no-entry w busy = ap (λ b. not b || nat_lt w.expiries w.expiries) (eq-eqb w.state w.state refl) ∙ le-ltb w.expiries w.expiries (omega arith)
 
 pub busy-put : (w : Observed) (busy : Bool) → put_by w (record w { own_busy = busy }) ≡ changed w (record w { own_busy = busy })
-busy-put w busy =
-    ap (λ b. changed w (record w { own_busy = busy }) ++ (cond b (command_of (record w { own_busy = busy })) [])) (no-entry w busy)
-    ∙ append-nil (changed w (record w { own_busy = busy }))
+busy-put w busy = grind (arith, changed, command_of, no-entry, append-nil)
 
 module _ (service : Service) (tei : ℕ) where
   pub up-told : (w now : Observed) → is_up w.state ≡ true → now.state ≡ w.state → told_by service tei false w now ≡ []

@@ -1,5 +1,5 @@
 -- The rows of the table of refusals, beside those of an observer.
-use Rattle.laws_trace.proofs.Vocabulary.{◌≡◌, ◌⊎◌, inl, inr, ◌==◌, ◌||◌, Bool, true, false, not, cond, Some, None, Ok, Err, Result, refl, arith, Refusal, is_up, State, state_number, result_err, LinkEstablish, LinkRelease, BadTei, NoLink, WrongState, TooLong, QueueFull, PoolFull}
+use Rattle.laws_trace.proofs.Vocabulary.{◌≡◌, ◌⊎◌, ◌==◌, ◌||◌, Bool, true, not, cond, Some, None, Ok, Err, Result, arith, Refusal, is_up, State, state_number, result_err, LinkEstablish, LinkRelease, BadTei, NoLink, WrongState, TooLong, QueueFull, PoolFull}
 use Rattle.model_link.specs.Requests.{serves}
 use Rattle.laws_trace.specs.RequestsTakeEffect.{Effect, effect}
 
@@ -14,8 +14,7 @@ pub served : (serves : Bool) (x e : Effect) → if_serves serves x ≡ Ok e → 
 served serves x e is = grind arith
 
 pub either-served : (down up : Bool) (x y e : Effect) → cond up (Ok y) (if_serves down x) ≡ Ok e → ((down ≡ true) × (x ≡ e)) ⊎ ((up ≡ true) × (y ≡ e))
-either-served down true x y e is = inr (refl, same-ok y e is)
-either-served down false x y e is = inl (served down x e is)
+either-served down up x y e is = grind (arith, same-ok, served)
 
 pub room-served : (up long many none : Bool) (x e : Effect) → cond (not up) (Err WrongState) (cond long (Err TooLong) (cond many (Err QueueFull) (cond none (Err PoolFull) (Ok x)))) ≡ Ok e → (up ≡ true) × (x ≡ e)
 room-served up long many none x e is = grind arith

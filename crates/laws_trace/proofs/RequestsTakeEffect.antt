@@ -112,11 +112,7 @@ module _ (c : Config) (events : List Event) (number : ℕ) (ranged : IsInRange c
     fs = put_in c service tei o.view.link next its
 
     puts-are : puts_by c number events (request r) service tei ≡ fs
-    puts-are =
-        ap (λ (w : View). let n = views c service tei number w its in cond (is_on tei n.teis && is_on tei w.teis) (put_in c service tei w.link n.link its) []) (sym view)
-        ∙ ap (λ b. cond (b && is_on tei o.view.teis) (put_in c service tei o.view.link (views c service tei number o.view its).link its) []) teis-now
-        ∙ ap (λ b. cond b (put_in c service tei o.view.link (views c service tei number o.view its).link its) []) on
-        ∙ ap (λ (n : Observed). put_in c service tei o.view.link n its) link-now
+    puts-are = grind (arith, put_in, view, teis-now, link-now)
 
     few : length o.waiting ≤ c.control
     few =
@@ -248,8 +244,7 @@ module _ (c : Config) (events : List Event) (number : ℕ) (ranged : IsInRange c
     busy b = record w { own_busy = b }
 
     same-kept : (b : Bool) → is_up w.state ≡ true → cond (is_up w.state) (drop (went_on false w (busy b)) o.kept ++ []) o.kept ≡ o.kept
-    same-kept b up =
-        ap (λ u. cond u (drop (went_on false w (busy b)) o.kept ++ []) o.kept) up ∙ append-nil (drop (went_on false w (busy b)) o.kept) ∙ ap (λ n. drop n o.kept) (no-went w (busy b) refl)
+    same-kept b up = grind (arith, went_on, append-nil, no-went)
 
     set-takes : fine (SetBusy service tei) → is_up w.state ≡ true → Effective (SetBusy service tei) (record (puts c (changed w (busy true)) o) { link = busy true })
     unfolding Effective
@@ -307,12 +302,7 @@ module _ (c : Config) (events : List Event) (number : ℕ) (ranged : IsInRange c
       (λ e is unrefused. let x = there (nat_lt 126 tei) (is_on tei o.view.teis) (effect c full service tei o asked) e is in takes x.0 asked e unrefused x.1)
 
   deactivation-answered : IsAnswered c events number service tei (Deactivate service tei) (of_tei tei o (Ok (deactivated service tei o.view.link)))
-  deactivation-answered =
-      answered (Deactivate service tei) (of_tei tei o (Ok (deactivated service tei o.view.link)))
-      (by-tei (nat_lt 126 tei) (has_tei tei l) (is_on tei o.view.teis) (deactivated service tei o.view.link) on-is)
-      (λ e is unrefused.
-      let x = there (nat_lt 126 tei) (is_on tei o.view.teis) (Ok (deactivated service tei o.view.link)) e is in
-      subst (Effective (Deactivate service tei)) (same-ok (deactivated service tei o.view.link) e x.1) (ended-takes x.0 unrefused))
+  deactivation-answered = grind (arith, answered, of_tei, Ok, deactivated, by-tei, nat_lt, on-is, there, same-ok, ended-takes)
 
 pub requests-take-effect : Always RequestsTakeEffect
 requests-take-effect c events number ranged all within service tei =

@@ -66,7 +66,4 @@ no-room : (tei : ℕ) (on : Bool) (x : Room) → on ≡ false
 no-room tei on x is = grind arith
 
 pub no-room-is-told : Always NoRoomIsTold
-no-room-is-told c events number ranged all within service tei off =
-    let card = after_all (fresh c) events in
-    let l = line_at number card in
-    no-room tei (has_tei tei l) (room_of (terms card.config service tei) (free card) (link_of service tei l)) (sym (tei-seen c events number ranged all within service tei) ∙ off)
+no-room-is-told c events number ranged all within service tei off = grind (arith, fresh, no-room, free, tei-seen)

@@ -2,9 +2,7 @@
 use Rattle.laws_trace.proofs.Vocabulary.{arith, ◌≡◌, ℕ, ◌≤◌, ◌==◌, cond, List, slice_index, Result, Ok, Err, sym, ap, ◌∙◌, subst, IfSome, Address, Side, Sender, ReadFault, Parts, Control, refl, header_of, completed, exchanged, exchanged-back, side_reading, reading, named_by, renamed, Config, IsInRange, heard_side, own_side, le-leb, ranges_of}
 use Rattle.std.proofs.lemmas.Bool.{eq-eqb, ne_eqb}
 use Rattle.std.proofs.lemmas.Bool.Decides.{eqb_tells}
-use Rattle.lapd_frame.specs.declared.faults.ReadFault.TheVariants.{BadExtension, Undefined, WrongSize, Short}
 use Rattle.lapd_frame.specs.declared.overlong.Long.{Long}
-use Rattle.lapd_frame.specs.declared.overlong.Long.TheVariants as long
 use Rattle.lapd_frame.specs.Reading.{long_of_header, long_reading as side_long_reading}
 use Rattle.lapd_frame.specs.Senders.{packet_sapi, long_reading, long_named}
 use Rattle.laws_trace.specs.Sapis.{sapi_in, address_in, address_of_long, IsNamed, ServicesHaveTheirSapis}
@@ -58,11 +56,7 @@ record Named (p s : ℕ) : Type 0 where
   management : (s == 63) ≡ (swapped p s == 63)
 
 named-so : (p s : ℕ) → 1 ≤ p → p ≤ 62 → Named p s
-named-so p s least most = record {
-  call = grind (arith, eqb_tells, eq-eqb, ne_eqb);
-  packet = grind (arith, eqb_tells, eq-eqb, ne_eqb);
-  management = grind (arith, eqb_tells, eq-eqb, ne_eqb);
-}
+named-so p s least most = grind (arith, eqb_tells, eq-eqb, ne_eqb)
 
 in-range : (own : ℕ) → 1 ≤ own → own ≤ 62 → packet_sapi own ≡ own
 in-range own least most = grind (arith, le-leb)
@@ -88,11 +82,7 @@ module _ (c : Config) (ranged : IsInRange c) (octets : List ℕ) where
   IsFrame (Err fault) = IfSome (address_in fault) (IsNamed c octets)
 
   frames : (side : Side) (r : Result Parts ReadFault) → Reads side octets r → IsFrame (named_by c.sapi r)
-  frames side (Ok frame) told = address frame.address told
-  frames side (Err BadExtension) _ = tt
-  frames side (Err (Undefined a)) has = address a has
-  frames side (Err (WrongSize a)) has = address a has
-  frames side (Err Short) _ = tt
+  frames side r told = grind (arith, address)
 
   frame-read : (sender : Sender) → sender.sapi ≡ c.sapi → IsFrame (reading sender octets)
   unfolding reading
@@ -103,12 +93,7 @@ module _ (c : Config) (ranged : IsInRange c) (octets : List ℕ) where
   IsLongFrame r = IfSome (address_of_long r) (IsNamed c octets)
 
   longs : (side : Side) (r : Result Long ReadFault) → IsLong side octets r → IsLongFrame (long_named c.sapi r)
-  longs side (Ok (long.Information a)) has = address a has
-  longs side (Ok (long.Unnumbered a)) has = address a has
-  longs side (Err BadExtension) _ = tt
-  longs side (Err (Undefined a)) has = address a has
-  longs side (Err (WrongSize a)) has = address a has
-  longs side (Err Short) _ = tt
+  longs side r h = grind (arith, address)
 
   long-read : IsLongFrame (long_reading (heard_side c) octets)
   long-read = longs (heard_side c).side (side_long_reading (heard_side c).side octets) (has-long (heard_side c).side octets)

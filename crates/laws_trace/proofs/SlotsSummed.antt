@@ -87,8 +87,7 @@ module _ (q : ℕ → ℕ) (place tei_at : ℕ → Option ℕ) (teis places : �
   summed (suc n) few = one-more n (omega (arith, few)) (summed n (omega (arith, few))) (tei_at n) refl
 
   within : (tei : ℕ) (o : Option ℕ) → place tei ≡ o → ((k : ℕ) → place tei ≡ Some k → k < places) → option_map_or q o 0 ≡ below places o
-  within tei None is few = refl
-  within tei (Some k) is few = ap (λ b. cond b (q k) 0) (sym (lt-ltb k places (few k is)))
+  within tei o is few = grind (arith, lt-ltb)
 
   pub sum-of-places : ((tei k : ℕ) → place tei ≡ Some k → k < places) → sum_by (λ tei. option_map_or q (place tei) 0) (range_with_len 0 teis) ≡ sum_by q (range_with_len 0 places)
   sum-of-places few =

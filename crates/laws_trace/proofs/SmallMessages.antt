@@ -1,10 +1,9 @@
 -- The Ri of each message of TEI management that waits on a line has two octets.
-use Rattle.laws_trace.proofs.Vocabulary.{ℕ, ◌+◌, ◌*◌, ◌/◌, ◌%◌, ◌<◌, ◌==◌, ◌&&◌, Bool, true, false, cond, nat_le, list_any, List, [], ◌∷◌, ◌++◌, Option, Some, None, arith, All, All-nil, All-cons, All-head, All-tail, All-append, AreOctets, Management, Message, Check, Doubled, Refusal, IdentityAssigned, IdentityDenied, IdentityRemove, free_place, no_room, lose_one, send, unserved, leave, end_check}
+use Rattle.laws_trace.proofs.Vocabulary.{ℕ, ◌+◌, ◌*◌, ◌/◌, ◌%◌, ◌<◌, ◌==◌, ◌&&◌, Bool, cond, nat_le, List, [], ◌∷◌, ◌++◌, Option, Some, None, arith, All, All-nil, All-cons, All-head, All-tail, All-append, AreOctets, Management, Message, Check, Doubled, Refusal, IdentityAssigned, IdentityDenied, IdentityRemove, free_place, no_room, lose_one, send, unserved, leave, end_check}
 use Rattle.laws_trace.proofs.Vocabulary.{TeiCourse as Course, cond_both, tei_after, tei_begun, tei_message, tei_assign, tei_remove, tei_check, tei_disown, tei_refusal, tei_step, tei_unless_refused, TeiEvent, tei_course}
 use Rattle.lapd_tei.specs.Rows as rows
 use Rattle.lapd_frame.specs.Readings.{by_reading}
 use Rattle.lapd_frame.specs.declared.readings.Reading.{Reading}
-use Rattle.lapd_frame.specs.declared.readings.Reading.TheVariants.{Profile, AnnexB}
 use Rattle.lapd_tei.specs.declared.messages.Message.TheVariants.{IdentityCheckRequest}
 use Rattle.lapd_tei.specs.Events.{expiry, down}
 use Rattle.lapd_tei.specs.Messages.{responses_in}
@@ -31,12 +30,10 @@ sends : (m : Message) (c : Course) → IsSmall m → AreSmall c → AreSmall (se
 sends m c small h = sent m c.now.waiting small h
 
 in-both : (r : Reading) (x y : Course) → AreSmall x → AreSmall y → AreSmall (by_reading r x y)
-in-both Profile x y h k = h
-in-both AnnexB x y h k = k
+in-both r x y h k = grind arith
 
 either-of : (b : Bool) (f g : Step) (c : Course) → AreSmall (f c) → AreSmall (g c) → AreSmall ((cond b f g) c)
-either-of true f g c h k = h
-either-of false f g c h k = k
+either-of b f g c h k = grind arith
 
 answer-small : (ri : ℕ) (c : Course) → ri < 65536 → AreSmall c → AreSmall (rows.answer_request ri c)
 answer-small ri c small h =
@@ -52,9 +49,7 @@ answer-small ri c small h =
     by-held None = new (free_place c.now.places) (free_tei c.now.places)
 
 request-small : (ri : ℕ) (c : Course) → ri < 65536 → AreSmall c → AreSmall (rows.request ri c)
-request-small ri c small h =
-    in-both c.now.reading (rows.answer_request ri c) (rows.request_anew ri c) (answer-small ri c small h)
-    (either-of (list_any (rows.assigns_for ri) c.now.waiting) unserved (rows.answer_request ri) c h (answer-small ri c small h))
+request-small ri c small h = grind (arith, in-both, answer-small, either-of, unserved)
 
 end-small : (c : Course) → AreSmall c → AreSmall (end_check c)
 end-small c h = grind (arith, sends)
@@ -81,8 +76,7 @@ verify-small tei c h = grind (arith, sends)
 
 -- A message that is served, and what octets say.
 either-served : {X : Type 0} (f : X → Course) (b : Bool) (u v : X) → AreSmall (f u) → AreSmall (f v) → AreSmall (f (cond b u v))
-either-served f true u v h k = h
-either-served f false u v h k = k
+either-served f b u v h k = grind arith
 
 served : (info : List ℕ) (c : Course) → AreOctets info → AreSmall c → AreSmall (rows.hear info c)
 served (a ∷ high ∷ low ∷ type ∷ last ∷ []) c octets h =
@@ -127,8 +121,7 @@ IsOfOctets (tei_message octets) = AreOctets octets
 IsOfOctets other = Unit {0}
 
 unless-small : (o : Option Refusal) (e : TeiEvent) (m : Management) → All IsSmall m.waiting → AreSmall (tei_step e (tei_begun m)) → AreSmall (tei_unless_refused o (tei_step e) m)
-unless-small None e m h k = k
-unless-small (Some why) e m h k = h
+unless-small o e m h k = grind arith
 
 pub after-small : (e : TeiEvent) (m : Management) → IsOfOctets e → All IsSmall m.waiting → All IsSmall (tei_after e m).waiting
 unfolding tei_course

@@ -1,16 +1,13 @@
 -- The messages of TEI management that wait stay small: what it hears are octets.
-use Rattle.laws_trace.proofs.Vocabulary.{arith, ◌≡◌, ℕ, ◌<◌, ◌%◌, Bool, true, false, cond, Result, List, [], ◌∷◌, ◌++◌, length, drop, slice_get, Option, Some, None, IfSome, refl, sym, subst, Ok, All, option_map, option_map_or, option_or, unwrap_or, cond_both, All-nil, All-drop, All-head, AreOctets, Parts, reading, reading-found, Config, Aim, at_link, at_management, at_no_link, at_none, at_units}
+use Rattle.laws_trace.proofs.Vocabulary.{arith, ◌≡◌, ℕ, ◌<◌, ◌%◌, Bool, true, false, cond, Result, List, [], ◌∷◌, ◌++◌, length, drop, slice_get, Option, Some, None, IfSome, refl, sym, subst, Ok, All, option_map, option_map_or, unwrap_or, cond_both, All-nil, All-drop, All-head, AreOctets, Parts, reading, reading-found, Config, Aim, at_link, at_management, at_no_link, at_none, at_units}
 use Rattle.laws_trace.proofs.Vocabulary.{of_aim, of_change, hears, expiry, request, next, Answer, Line}
-use Rattle.laws_trace.proofs.Vocabulary.{fresh_line, aim_of_heard, aim_of_expiry, aim_of_request, heard_side, Taken, taken, line_of, side_aims, head_of, Event, line_after as after, IsSound, LineTold, UnitData, first_taken, round, round_below, OfLink, of-links, terms, service_at, with_given_frame, with_message, with_unit, TeiEvent, tei_after, tei_told, told_of_management, Change, Gained}
-use Rattle.laws_trace.proofs.Vocabulary.{Left, Management, Refusal, Request, Timer, refusal, unless_refused}
+use Rattle.laws_trace.proofs.Vocabulary.{fresh_line, aim_of_heard, aim_of_expiry, aim_of_request, heard_side, Taken, taken, line_of, side_aims, head_of, Event, line_after as after, IsSound, LineTold, UnitData, round_below, OfLink, of-links, terms, service_at, with_given_frame, with_message, with_unit, TeiEvent, tei_after, tei_told, told_of_management, Change}
+use Rattle.laws_trace.proofs.Vocabulary.{Management, Refusal, Request, Timer, refusal, unless_refused}
 use Rattle.laws_trace.proofs.Vocabulary.{HasOctets, GivesOctets, seen, heard, seen_told, StreamEvent, other_side, renamed}
 use Rattle.std.proofs.Math.Nat.{mod-lt}
 use Rattle.lapd_frame.specs.declared.faults.ReadFault.{ReadFault}
 use Rattle.lapd_frame.specs.declared.overlong.Long.{Long}
 use Rattle.lapd_frame.specs.declared.readings.Reading.{Reading}
-use Rattle.lapd_frame.specs.Overlong.{is_unit}
-use Rattle.lapd_frame.specs.Senders.{long_reading}
-use Rattle.model_bits.specs.Stream as stream
 use Rattle.model_line.specs.Heard.{aim_of_long}
 use Rattle.lapd_tei.specs.Events as teis
 use Rattle.lapd_tei.specs.Events.{down as tei_down}
@@ -42,8 +39,7 @@ module _ (c : Config) (l : Line) where
   long-aims q ui r = grind arith
 
   heard-aims : (e : StreamEvent) → HasOctets e → IsOfOctetsAt (aim_of_heard c l e)
-  heard-aims (stream.overlong head) h = long-aims c.reading (is_unit head) (long_reading (heard_side c) head)
-  heard-aims e h = grind (arith, side_aims, info-octets)
+  heard-aims e h = grind (arith, long-aims, side_aims, info-octets)
 
 -- What management asks for, and an expiry, is no message.
 requests-tell : (r : Request) (l : Line) → IsOfOctetsAt (aim_of_request r l)
@@ -71,9 +67,7 @@ same-messages l now management its h = record {
 }
 
 changed-small : (c : Config) (o : Option Change) (t : LineTold) (l : Line) → MessagesAreSmall l → MessagesAreSmall (of_change c o t l).line
-changed-small c None t l h = h
-changed-small c (Some (Gained tei place)) t l h = same-messages l (of_change c (Some (Gained tei place)) t l).line refl refl h
-changed-small c (Some (Left tei place)) t l h = same-messages l (of_change c (Some (Left tei place)) t l).line refl refl h
+changed-small c o t l h = grind (arith, same-messages)
 
 terminal-small : (c : Config) (e : TerminalEvent) (l : Line) → MessagesAreSmall l → MessagesAreSmall (of_terminal c e l).line
 terminal-small c e l h =
@@ -81,8 +75,7 @@ terminal-small c e l h =
     changed-small c t.change (told_of_terminal t) (with_terminal (terminal_after e (terminal_in l)) l) (record { messages = h.messages; own = own.own-after e (terminal_in l) h.own })
 
 terminal-if-small : (c : Config) (o : Option TerminalEvent) (l : Line) → MessagesAreSmall l → MessagesAreSmall (of_terminal_if c o l).line
-terminal-if-small c None l h = h
-terminal-if-small c (Some e) l h = terminal-small c e l h
+terminal-if-small c o l h = grind (arith, terminal-small)
 
 managed-small : (c : Config) (e : TeiEvent) (l : Line) → IsOfOctets e → MessagesAreSmall l → MessagesAreSmall (of_management c e l).line
 managed-small c e l o h =
@@ -118,32 +111,22 @@ module _ (c : Config) (l : Line) (s : IsSound c l) (h : MessagesAreSmall l) wher
       go (Some octets) = record { messages = All-drop IsSmall 1 l.management.waiting h.messages; own = h.own }
 
   unit-leaves : (o : Option UnitData) → IfSome (option_map (with_unit c l) o) LeavesSmall
-  unit-leaves None = tt
-  unit-leaves (Some unit) = same-messages l (with_unit c l unit).line refl refl h
+  unit-leaves o = grind (arith, same-messages, with_unit)
 
   link-leaves : (t : Taken) → OfLink c l t → LeavesSmall t
   link-leaves t x = subst LeavesSmall (sym x.is) (same-messages l (with_given_frame c l x.number (terms c (service_at x.number) x.tei) x.what).line refl refl h)
 
   first-leaves : (o : Option Taken) → IfSome o (OfLink c l) → IfSome o LeavesSmall
-  first-leaves None x = tt
-  first-leaves (Some t) x = link-leaves t x
+  first-leaves o x = grind (arith, link-leaves)
 
   leaves-small : IfSome (taken c l) LeavesSmall
-  leaves-small =
-      either LeavesSmall (message_taken c l) (option_or (unit_taken c l) (first_taken c l (round c l))) (message-leaves (is_terminal c))
-      (either LeavesSmall (unit_taken c l) (first_taken c l (round c l)) (unit-leaves (slice_get l.units 0))
-      (first-leaves (first_taken c l (round c l)) (of-links c l s (round c l) (round_below c l))))
+  leaves-small = grind (arith, either, message_taken, unit_taken, message-leaves, unit-leaves, slice_get, first-leaves, of-links, round_below)
 
   next-small : MessagesAreSmall (option_map_or line_of (taken c l) l)
-  next-small = go (taken c l) leaves-small
-    where
-      go : (o : Option Taken) → IfSome o LeavesSmall → MessagesAreSmall (option_map_or line_of o l)
-      go None x = h
-      go (Some t) x = x
+  next-small = grind (arith, taken, leaves-small, IfSome, line_of)
 
 aimed : (c : Config) (o : Option Refusal) (r : Request) (l : Line) → MessagesAreSmall l → MessagesAreSmall (of_aim c (unless_refused o (aim_of_request r l)) l).line
-aimed c (Some why) r l h = h
-aimed c None r l h = aim-small c (aim_of_request r l) l (requests-tell r l) h
+aimed c o r l h = grind (arith, aim-small, requests-tell)
 
 pub messages-after : (c : Config) (e : Event) (l : Line) (a : Answer) → IsSound c l → All GivesOctets (seen e a) → MessagesAreSmall l → MessagesAreSmall (after c e l)
 unfolding after

@@ -1,5 +1,5 @@
 -- The Ri of each message of a terminal that waits on a line has two octets, and so has the number that comes next.
-use Rattle.laws_trace.proofs.Vocabulary.{ℕ, ◌+◌, ◌*◌, ◌/◌, ◌%◌, ◌<◌, ◌==◌, ◌&&◌, Bool, true, false, cond, List, [], ◌∷◌, ◌++◌, Option, Some, None, arith, All, All-nil, All-cons, All-append, cond_both, list_any, fold, nat_lt, is_on, free_place, Refusal}
+use Rattle.laws_trace.proofs.Vocabulary.{ℕ, ◌+◌, ◌<◌, ◌==◌, Bool, true, false, cond, List, [], ◌∷◌, ◌++◌, Option, Some, None, arith, All, All-nil, All-cons, All-append, cond_both, fold, nat_lt, is_on, free_place, Refusal}
 use Rattle.std.proofs.lemmas.List.Elements.{All-filter, All-set}
 use Rattle.std.specs.List.{position}
 use Rattle.lapd_terminal.specs.Events.{Event, after, message, expiry, assign, remove, down, refusal, unless_refused}
@@ -9,10 +9,9 @@ use Rattle.lapd_terminal.specs.Machine.{Terminal}
 use Rattle.lapd_terminal.specs.Messages.{heard_in, heard_of_type}
 use Rattle.lapd_terminal.specs.Rows as rows
 use Rattle.lapd_terminal.specs.Rows.{answered, take_off, end_if_any, withdraw_all}
-use Rattle.lapd_terminal.specs.Words.{Course, Step, begun, ◌then◌, put_at, with_request, with_verify, is_request, is_verify, is_response, is_response_of, is_other, is_verified, end_procedure, nothing_happens, send_response, leave, ask, verify, join, note, unserved}
+use Rattle.lapd_terminal.specs.Words.{Course, Step, begun, ◌then◌, put_at, with_request, with_verify, is_request, is_response, is_other, is_verified, end_procedure, nothing_happens, send_response, leave, ask, verify, join, unserved}
 use Rattle.lapd_terminal.specs.declared.messages.Message.{Message}
 use Rattle.lapd_terminal.specs.declared.messages.Message.TheVariants.{IdentityRequest, IdentityCheckResponse, IdentityVerify}
-use Rattle.lapd_terminal.specs.declared.outcome.News.TheVariants.{Denied}
 use Rattle.lapd_terminal.specs.declared.procedure.Procedure.{Procedure}
 use Rattle.lapd_terminal.specs.declared.procedure.Procedure.TheVariants.{Asking, Verifying}
 use Rattle.lapd_terminal.proofs.SoundWords.{number_low}
@@ -44,9 +43,7 @@ requested : (number : ℕ) (waiting : List Message) → number < 65536 → All I
 requested number waiting low h = put (IdentityRequest number) waiting (position is_request waiting) low h
 
 verified : (tei : ℕ) (waiting : List Message) → All IsSmall waiting → All IsSmall (with_verify tei waiting)
-verified tei waiting h =
-    cond_both (list_any is_verify waiting) waiting (waiting ++ IdentityVerify tei ∷ []) (All IsSmall) (λ some. h)
-    (λ none. at-end (IdentityVerify tei) waiting (omega arith) h)
+verified tei waiting h = grind (arith, cond_both, at-end)
 
 -- A procedure ends, or none does.
 ended : (b : Bool) (c : Course) → Small c → Small ((cond b end_procedure nothing_happens) c)
@@ -55,13 +52,10 @@ ended false c h = h
 
 -- A check is answered, unless it was.
 sent : (tei : ℕ) (b : Bool) (c : Course) → Small c → Small ((cond b nothing_happens (send_response tei)) c)
-sent tei true c h = h
-sent tei false c h = record { low = number_low c.now.number; all = at-end (IdentityCheckResponse c.now.number tei) c.now.waiting h.low h.all }
+sent tei b c h = grind (arith, number_low, at-end)
 
 answers-one : (tei : ℕ) (c : Course) → Small c → Small (answered c tei)
-answers-one tei c h =
-    let over = (cond (is_verified tei c.now.procedure) end_procedure nothing_happens) c in
-    sent tei (list_any (is_response_of tei) over.now.waiting) over (ended (is_verified tei c.now.procedure) c h)
+answers-one tei c h = grind (arith, sent, ended)
 
 answers-all : (teis : List ℕ) (c : Course) → Small c → Small (fold answered c teis)
 answers-all [] c h = h
@@ -78,13 +72,11 @@ taken-off tei m h =
 
 -- The line is down.
 down-small : (m : Terminal) (o : Option Procedure) → Small (begun m) → Small ((end_if_any o then withdraw_all) (begun m))
-down-small m None h = record { low = h.low; all = All-nil IsSmall }
-down-small m (Some procedure) h = record { low = h.low; all = All-nil IsSmall }
+down-small m o h = grind (arith, All-nil)
 
 -- Each row, by what it tests.
 either : (b : Bool) (f g : Step) (c : Course) → Small (f c) → Small (g c) → Small ((cond b f g) c)
-either true f g c x y = x
-either false f g c x y = y
+either b f g c x y = grind arith
 
 asked : (attempts : ℕ) (c : Course) → Small c → Small (ask attempts c)
 asked attempts c h = record { low = number_low c.now.number; all = requested c.now.number c.now.waiting h.low h.all }
@@ -104,39 +96,23 @@ assigned ri tei (Some (Asking own attempts)) c h =
 assigned ri tei (Some (Verifying own attempts)) c h = h
 
 denied : (ri : ℕ) (o : Option Procedure) (c : Course) → Small c → Small (rows.denied ri o c)
-denied ri None c h = h
-denied ri (Some (Asking own attempts)) c h = either (own == ri) (note Denied) unserved c h h
-denied ri (Some (Verifying own attempts)) c h = h
+denied ri o c h = grind (arith, either, unserved)
 
 checked : (teis : List ℕ) (c : Course) → Small c → Small (rows.checked teis c)
 checked [] c h = h
 checked (tei ∷ teis) c h = answers-all (tei ∷ teis) c h
 
 removed : (teis : List ℕ) (m : Terminal) → Small (begun m) → Small (rows.removed_each teis (begun m))
-removed [] m h = h
-removed (tei ∷ []) m h = taken-off tei m h
-removed (tei ∷ other ∷ teis) m h = h
+removed teis m h = grind (arith, taken-off)
 
 either-of : {X : Type 0} (f : X → Course) (b : Bool) (u v : X) → Small (f u) → Small (f v) → Small (f (cond b u v))
-either-of f true u v x y = x
-either-of f false u v x y = y
+either-of f b u v x y = grind arith
 
 of-type : (type ri action : ℕ) (m : Terminal) → Small (begun m) → Small (rows.serve (heard_of_type type ri action) (begun m))
-of-type type ri action m h =
-    either-of (λ o. rows.serve o (begun m)) (type == 2) _ _ (assigned ri action m.procedure (begun m) h)
-    (either-of (λ o. rows.serve o (begun m)) (type == 3 && action == 127) _ _ (denied ri m.procedure (begun m) h)
-    (either-of (λ o. rows.serve o (begun m)) (type == 4) _ _ (checked (rows.named action m.places) (begun m) h)
-    (either-of (λ o. rows.serve o (begun m)) (type == 6) _ _ (removed (rows.named action m.places) m h) h)))
+of-type type ri action m h = grind (arith, either-of, begun, assigned, denied, checked, rows.named, removed)
 
 serves : (octets : List ℕ) (m : Terminal) → Small (begun m) → Small (rows.serve (heard_in octets) (begun m))
-serves (entity ∷ high ∷ low ∷ type ∷ last ∷ []) m h =
-    either-of (λ o. rows.serve o (begun m)) (entity == 0x0F && last % 2 == 1) _ _ (of-type type (256 * high + low) (last / 2) m h) h
-serves [] m h = h
-serves (a ∷ []) m h = h
-serves (a ∷ b ∷ []) m h = h
-serves (a ∷ b ∷ d ∷ []) m h = h
-serves (a ∷ b ∷ d ∷ e ∷ []) m h = h
-serves (a ∷ b ∷ d ∷ e ∷ f ∷ g ∷ more) m h = h
+serves octets m h = grind (arith, either-of, begun, of-type)
 
 expires : (o : Option Procedure) (m : Terminal) → Small (begun m) → Small (rows.expire_procedure o (begun m))
 expires None m h = h
@@ -144,12 +120,10 @@ expires (Some (Asking ri attempts)) m h = either (nat_lt attempts 3) (ask (attem
 expires (Some (Verifying tei attempts)) m h = either (nat_lt attempts 2) (verify tei (attempts + 1)) (rows.removed tei) (begun m) (verifies tei (attempts + 1) (begun m) h) (taken-off tei m h)
 
 joins : (tei : ℕ) (o : Option ℕ) (m : Terminal) → Small (begun m) → Small (rows.join_at tei o (begun m))
-joins tei None m h = h
-joins tei (Some place) m h = h
+joins tei o m h = grind arith
 
 unless : (o : Option Refusal) (does : Step) (m : Terminal) → Small (begun m) → Small (does (begun m)) → Small (unless_refused o does m)
-unless None does m h x = x
-unless (Some why) does m h x = h
+unless o does m h x = grind arith
 
 leads : (e : Event) (m : Terminal) → Small (begun m) → Small (course e m)
 unfolding course

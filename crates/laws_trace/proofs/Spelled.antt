@@ -1,6 +1,6 @@
 -- Each frame that begins on a line is one that the grammar has, of a service or of TEI management: the law.
-use Rattle.laws_trace.proofs.Vocabulary.{◌≡◌, ◌≤◌, true, false, List, [], ◌∷◌, ◌++◌, slice_get, Option, Some, None, IfSome, option_map, refl, sym, subst, arith, All, option_or, flat_map-append, All-nil, All-head, All-append, Parts, Ui, sapi_of, Message, address_at, IsGiven, Given, Terms, given_is_frame, Config, next, gave, Line, UnitData, service_at, place_at, terms, link_at, Taken, with_unit}
-use Rattle.laws_trace.proofs.Vocabulary.{unit_frame, first_taken, round, taken, next_of, IsInRange, IsSoundAt, IsUnitData, round_below, terms_in_range, OfLink, of-links, fresh_is_sound, Card, ℕ, moments, unwrap_or, information_of, message_frame, Event, line_after as after, answer, with_message, IsSound, fresh, IsSpelled, FramesAreRead, AreAtLines, trace_frame_in as frame_in, Seen, seen, trace}
+use Rattle.laws_trace.proofs.Vocabulary.{◌≡◌, ◌≤◌, true, false, List, [], ◌∷◌, ◌++◌, slice_get, Option, Some, IfSome, option_map, refl, sym, subst, arith, All, option_or, flat_map-append, All-nil, All-head, All-append, Parts, Ui, sapi_of, Message, address_at, IsGiven, Given, Terms, given_is_frame, Config, next, gave, Line, UnitData, service_at, place_at, terms, link_at, Taken, with_unit}
+use Rattle.laws_trace.proofs.Vocabulary.{unit_frame, taken, next_of, IsInRange, IsSoundAt, IsUnitData, round_below, terms_in_range, OfLink, of-links, fresh_is_sound, Card, ℕ, moments, unwrap_or, information_of, message_frame, Event, line_after as after, answer, with_message, IsSound, fresh, IsSpelled, FramesAreRead, AreAtLines, trace_frame_in as frame_in, Seen, seen, trace}
 use Rattle.laws_trace.proofs.Vocabulary.{frames_begun, Always, given, frame_begun, CardEvent, sapi-small}
 use Rattle.model_link.specs.Sound as link_sound
 use Rattle.model_card.specs.Sound as card_sound
@@ -57,29 +57,17 @@ module _ (c : Config) (ranged : IsInRange c) (l : Line) (s : IsSound c l) where
   first-spelled o x = grind (arith, link-spelled)
 
   either : (m rest : Option Taken) → IfSome m Spelled → IfSome rest Spelled → IfSome (option_or m rest) Spelled
-  either None rest x y = y
-  either (Some t) rest x y = x
+  either m rest x y = grind arith
 
   of-unit : (us : List UnitData) → All (IsUnitData c) us → IfSome (option_map (with_unit c l) (slice_get us 0)) Spelled
   of-unit [] h = tt
   of-unit (u ∷ us) h = unit-spelled c u (All-head (IsUnitData c) u us h).tei
 
   of-message : (b : Bool) → is_terminal c ≡ b → IfSome (cond b (option_map (with_own_message l) (terminals.offered (terminal_in l))) (option_map (with_message l) (teis.offered c.side l.management))) Spelled
-  of-message true is = go (slice_get l.own.waiting 0)
-    where
-      go : (o : Option OwnMessage) → IfSome (option_map (with_own_message l) (option_map own_frame_of o)) Spelled
-      go None = tt
-      go (Some m) = own-spelled c m is
-  of-message false net = go (slice_get l.management.waiting 0)
-    where
-      go : (o : Option Message) → IfSome (option_map (with_message l) (option_map (message_frame c.side) o)) Spelled
-      go None = tt
-      go (Some m) = message-spelled c m
+  of-message b is = grind (arith, slice_get, IfSome, option_map, own-spelled, message-spelled)
 
   taken-spelled : IfSome (taken c l) Spelled
-  taken-spelled =
-      either (message_taken c l) (option_or (unit_taken c l) (first_taken c l (round c l))) (of-message (is_terminal c) refl)
-      (either (unit_taken c l) (first_taken c l (round c l)) (of-unit l.units s.units) (first-spelled (first_taken c l (round c l)) (of-links c l s (round c l) (round_below c l))))
+  taken-spelled = grind (arith, either, message_taken, unit_taken, of-message, of-unit, first-spelled, of-links, round_below)
 
 -- Of what begins in a trace.
 abbrev AreSpelled : Config → Line → List Seen → Line → Type 0

@@ -44,8 +44,7 @@ module _ (service : Service) (tei : ℕ) where
   -- What an event of the line is to its link.
   module _ (c : Config) (e : Event) (a : Answer) where
     brings-is : (le : link.Event) → IsBy c e a service tei le → brings_information service tei (frame_by c e) ≡ brings le
-    brings-is (link.received (link.frame f)) by = grind (arith, brings-frame, brings_information, is_information)
-    brings-is le by = grind (arith, brings_information, brings-none, frame_by)
+    brings-is le by = grind (arith, brings-frame, brings_information, is_information, brings-none, frame_by)
 
     asked-is : (le : link.Event) (busy : Bool) → IsBy c e a service tei le → asked_busy e a busy ≡ flags.busy_asked le busy
     asked-is le busy by = grind (arith, heard-by, service-same, eq-eqb, never)

@@ -1,6 +1,6 @@
 -- How a link stands behind an event: own busy, and whether REJ stands.
-use Rattle.laws_trace.proofs.Vocabulary.{arith, ◌≡◌, ℕ, ◌&&◌, ◌||◌, Bool, true, false, cond, List, Some, None, sym, ap, ◌∙◌, not, is_some, and_right, or_parts, or_from, or_right, none-some, State, AwaitingEstablishment, Terms, restarts, received, Link, is_multiple_frame, event-delivers, delivered-at_once, flag_left, busy_asked, own_busy_left, rejecting_heard, pending_left, as_heard, is_anew}
-use Rattle.laws_trace.proofs.Vocabulary.{is_clearing, leads_by_sabme, leads_by_agreement, comes_to, numbers_begin, state_after, event-follows, LinkEvent as Event, frame, link_told, link_after}
+use Rattle.laws_trace.proofs.Vocabulary.{arith, ◌≡◌, ℕ, ◌&&◌, ◌||◌, Bool, true, false, cond, List, Some, None, sym, ap, ◌∙◌, not, is_some, and_right, or_parts, or_right, none-some, State, AwaitingEstablishment, Terms, restarts, received, Link, is_multiple_frame, event-delivers, delivered-at_once, flag_left, busy_asked, own_busy_left, rejecting_heard, pending_left, as_heard, is_anew}
+use Rattle.laws_trace.proofs.Vocabulary.{numbers_begin, state_after, event-follows, LinkEvent as Event, frame, link_told, link_after}
 use Rattle.laws_trace.proofs.Counting.{Watched}
 use Rattle.laws_trace.proofs.DeliveriesWatched.{Standing}
 use Rattle.model_link.specs.Sound.{is_information}
@@ -35,10 +35,7 @@ module _ (t : Terms) (x flag : Bool) where
 
   -- while the link stays up, it is as the event leaves it.
   not-anew : (e : Event) (from to : State) → is_multiple_frame to ≡ true → numbers_begin e from to ≡ false → is_anew e from to ≡ false
-  not-anew e from to up on =
-      let first = or_parts (leads_by_sabme e to) (leads_by_agreement e from to || is_clearing e) on in
-      let second = or_parts (leads_by_agreement e from to) (is_clearing e) first.1 in
-      or_from (comes_to 5 from to) (leads_by_sabme e to || is_clearing e) (grind (arith, and_right, never)) (or_from (leads_by_sabme e to) (is_clearing e) first.0 second.1)
+  not-anew e from to up on = grind (arith, or_parts, and_right, never)
 
   pub as-left : (e : Event) (l : Link) (to : State) → is_multiple_frame l.state ≡ true → is_multiple_frame to ≡ true → numbers_begin e l.state to ≡ false → flag_left e l to x flag ≡ x
   as-left e l to was up on = grind (arith, not-anew)

@@ -1,5 +1,5 @@
 -- TEIs are managed as the procedures say: runs of a card, and the law.
-use Rattle.laws_trace.proofs.Vocabulary.{◌≡◌, ℕ, zero, suc, ◌%◌, ◌<◌, ◌==◌, Bool, true, false, cond, List, [], ◌∷◌, get_or, replicate, None, refl, sym, ap, ◌∙◌, subst, inl, arith, eq-eqb, true≢false, fold, and_parts, option_map_or, get_or-replicate, get_or-set_same, All-head, All-tail, PoolFull, Config, Answer, refused, Line, Management, fresh_line, IsInRange, Card, line_at, is_full, at}
+use Rattle.laws_trace.proofs.Vocabulary.{◌≡◌, ℕ, zero, suc, ◌%◌, ◌<◌, ◌==◌, Bool, true, false, cond, List, [], ◌∷◌, get_or, replicate, None, refl, sym, ap, ◌∙◌, subst, arith, eq-eqb, true≢false, fold, and_parts, option_map_or, get_or-replicate, get_or-set_same, All-head, All-tail, PoolFull, Config, Answer, refused, Line, Management, fresh_line, IsInRange, Card, line_at, is_full, at}
 use Rattle.laws_trace.proofs.Vocabulary.{after_is_sound, fresh_is_sound, has_lines, by_room, config-stays, eqb-true}
 use Rattle.laws_trace.proofs.Vocabulary.{fresh, CardEvent as Event, after, card_answer as answer, after_all, IsAtLine, AreAtLines, always_sound, line_sound as sound-at, Managed, none_on, nothing_due, due, led, managed_after, managing_by_event as by_event, TeisAreManaged, Always, CardIsSound as IsSound, IsSound as IsSoundLine, Request}
 use Rattle.std.specs.Option.{unwrap_or}
@@ -20,11 +20,7 @@ use Rattle.laws_trace.proofs.Tracked.{OfSide, Tracks, TracksLine, Shows, IsQuiet
 
 -- What is known is so while nothing is due.
 kept-quiet : (c : Config) (w : Managed) (m : Management) (own : Own) → Tracks c w m own → Tracks c (nothing_due w) m own
-kept-quiet c w m own x = record { on = x.on; side = go (is_terminal c) x.side }
-  where
-    go : (b : Bool) → OfSide c b w m own → OfSide c b (nothing_due w) m own
-    go true x = record { own_is = x.own_is; on_is = x.on_is; owed = x.owed }
-    go false x = record { is = x.is; on = x.on; placed = x.placed; order = x.order }
+kept-quiet c w m own x = grind (arith, nothing_due)
 
 is-quiet : (w : Managed) → IsQuiet (nothing_due w)
 is-quiet w = record { notes = refl; orders = refl; lost = refl; begins = refl; granted = refl }
@@ -49,12 +45,7 @@ none-due c r w carries = grind arith
 
 refused-shows : (c : Config) (e : line_event.Event) (l : Line) (w : Managed) → lines.takes_slot c e l ≡ true → Tracks c w l.management l.own → Answers c l w e (refused PoolFull) l
 unfolding lines.takes_slot
-refused-shows c (line_event.request r) l w takes h =
-    subst (λ d. Shows c l (line_event.request r) d (refused PoolFull) l) (sym (none-due c r w (and_parts (carries_contents r) _ takes).0))
-    (record { as_due = record { notes = refl; orders = refl; begins = refl; granted = none-granted (nothing_due w) refl false }; lost = inl refl; follows = kept-quiet c w l.management l.own h })
-refused-shows c (line_event.hears e) l w takes h = absurd (true≢false (sym takes))
-refused-shows c (line_event.expiry timer) l w takes h = absurd (true≢false (sym takes))
-refused-shows c line_event.next l w takes h = absurd (true≢false (sym takes))
+refused-shows c e l w takes h = grind (arith, refused, none-due, and_parts, none-granted, nothing_due, kept-quiet, true≢false)
 
 pub own-shows : (k : Card) (e : Event) (w : Managed) → IsSound k → IsAtLine k e → TracksLine k.config w (line_at e.line k)
     → Answers k.config (line_at e.line k) w e.what (answer e k) (line_at e.line (after e k))

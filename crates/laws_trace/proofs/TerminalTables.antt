@@ -4,7 +4,6 @@ use Rattle.std.specs.List.{position}
 use Rattle.lapd_terminal.specs.declared.messages.Message.{Message}
 use Rattle.lapd_terminal.specs.declared.messages.Message.TheVariants.{IdentityRequest, IdentityCheckResponse, IdentityVerify}
 use Rattle.lapd_terminal.specs.declared.procedure.Procedure.{Procedure}
-use Rattle.lapd_terminal.specs.declared.procedure.Procedure.TheVariants.{Asking, Verifying}
 use Rattle.lapd_tei.specs.Table as table
 use Rattle.lapd_terminal.specs.Words as words
 use Rattle.laws_trace.specs.ManagingTerminal as seen
@@ -31,24 +30,17 @@ first-of p x xs b is = grind (arith, rest-first)
 
 -- What a terminal's messages are.
 pub response-same : (m : Message) → seen.is_response m ≡ words.is_response m
-response-same (IdentityRequest ri) = refl
-response-same (IdentityCheckResponse ri tei) = refl
-response-same (IdentityVerify tei) = refl
+response-same m = grind arith
 
 pub response-for-same : (tei : ℕ) (m : Message) → seen.is_response_for tei m ≡ words.is_response_of tei m
-response-for-same tei (IdentityRequest ri) = refl
-response-for-same tei (IdentityCheckResponse ri on) = refl
-response-for-same tei (IdentityVerify on) = refl
+response-for-same tei m = grind arith
 
 pub verified-same : (tei : ℕ) (o : Option Procedure) → seen.is_verified tei o ≡ words.is_verified tei o
-verified-same tei None = refl
-verified-same tei (Some (Asking ri attempts)) = refl
-verified-same tei (Some (Verifying on attempts)) = refl
+verified-same tei o = grind arith
 
 -- A request takes the place of an older one, and a verify goes to the end, if none waits.
 put-after : (m x : Message) (ms : List Message) (o : Option ℕ) → words.put_at m (x ∷ ms) (one-on o) ≡ x ∷ words.put_at m ms o
-put-after m x ms None = refl
-put-after m x ms (Some place) = refl
+put-after m x ms o = grind arith
 
 pub request-same : (ri : ℕ) (ms : List Message) → seen.with_request ri ms ≡ words.with_request ri ms
 request-same ri [] = refl
@@ -63,8 +55,7 @@ request-same ri (IdentityVerify tei ∷ ms) =
     ∙ sym (ap (words.put_at (IdentityRequest ri) (IdentityVerify tei ∷ ms)) (first-of words.is_request (IdentityVerify tei) ms false refl))
 
 behind : (b : Bool) (x v : Message) (ms : List Message) → x ∷ cond b ms (ms ++ v ∷ []) ≡ cond b (x ∷ ms) (x ∷ ms ++ v ∷ [])
-behind true x v ms = refl
-behind false x v ms = refl
+behind b x v ms = grind arith
 
 pub verify-same : (tei : ℕ) (ms : List Message) → seen.with_verify tei ms ≡ words.with_verify tei ms
 verify-same tei [] = refl
@@ -80,8 +71,7 @@ on-same tei (None ∷ places) = on-same tei places
 on-same tei (Some on ∷ places) = ap (λ b. (on == tei) || b) (on-same tei places)
 
 or-some : (o : Option ℕ) → is_some o ≡ is_some (one-on o)
-or-some None = refl
-or-some (Some n) = refl
+or-some o = grind arith
 
 pub free-same : (places : Places) → list_any seen.is_free places ≡ is_some (free_place places)
 free-same [] = refl
@@ -94,8 +84,7 @@ put-on tei places None = places
 put-on tei places (Some place) = set places place (Some tei)
 
 put-later : (tei on : ℕ) (places : Places) (o : Option ℕ) → put-on tei (Some on ∷ places) (one-on o) ≡ Some on ∷ put-on tei places o
-put-later tei on places None = refl
-put-later tei on places (Some place) = refl
+put-later tei on places o = grind arith
 
 comes-first : (tei : ℕ) (places : Places) → seen.with_tei tei places ≡ put-on tei places (free_place places)
 comes-first tei [] = refl
@@ -128,8 +117,7 @@ stays-all tei (Some on ∷ places) off = go (on == tei) off (λ off. stays-all t
     go false off rest = ap (λ places. Some on ∷ places) (rest off)
 
 free-later : (o : Option ℕ) (places : Places) (p : Option ℕ) → freed (o ∷ places) (one-on p) ≡ o ∷ freed places p
-free-later o places None = refl
-free-later o places (Some place) = refl
+free-later o places p = grind arith
 
 pub leaves-same : (tei : ℕ) (places : Places) → IsOnce tei places → seen.without_tei tei places ≡ freed places (place_of tei places)
 leaves-same tei [] once = refl

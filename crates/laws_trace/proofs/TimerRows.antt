@@ -1,11 +1,8 @@
 -- What is known of a link, and when its timers are started anew: each row of the tables, except for offers.
-use Rattle.laws_trace.proofs.Vocabulary.{arith, ◌≡◌, ℕ, ◌≤◌, ◌+◌, Bool, true, false, List, Option, Some, None, refl, sym, subst, nat_lt, length, Information, ReceiveReady, ReceiveNotReady, Reject, Sabme, ErrorCode, State, TeiAssigned, AwaitingEstablishment, AwaitingRelease, Established, TimerRecovery, Terms, LinkTimer, Link, Control, T200, T203, Course, Step, begun, frame_in, malformed_in}
+use Rattle.laws_trace.proofs.Vocabulary.{arith, ◌≡◌, ℕ, ◌≤◌, ◌+◌, Bool, true, false, List, Option, Some, None, refl, sym, subst, nat_lt, length, Information, ReceiveReady, ReceiveNotReady, Reject, Sabme, ErrorCode, State, TeiAssigned, AwaitingEstablishment, AwaitingRelease, Established, TimerRecovery, Terms, LinkTimer, Link, Control, T200, T203, Step, begun, frame_in, malformed_in}
 use Rattle.laws_trace.proofs.Vocabulary.{is_final}
-use Rattle.lapd_frame.specs.Readings.{by_reading}
 use Rattle.lapd_frame.specs.declared.controls.Control.TheVariants.{Dm, Ui}
 use Rattle.lapd_frame.specs.declared.notes.ErrorCode.TheVariants as code
-use Rattle.lapd_frame.specs.declared.readings.Reading.{Reading}
-use Rattle.lapd_frame.specs.declared.readings.Reading.TheVariants.{Profile, AnnexB}
 use Rattle.model_link.specs.MultipleFrame.{failed, long_unit_in_7_8}
 use Rattle.model_link.specs.Steps.{by_bit}
 use Rattle.model_link.specs.TeiAssigned.{establish_in_4}
@@ -20,11 +17,7 @@ in_state here l = record l { state = here }
 
 -- What is not served in states 4, 5 and 6, or is an error by annex B
 unserved-acts : (t : Terms) (e : ErrorCode) → Acts (malformed_below t e) itself
-unserved-acts t e = record { acts = λ c. go t.reading c }
-  where
-    go : (r : Reading) (c : Course) → timing (by_reading r (leave_unserved c) (error t e c)) ≡ timing c
-    go Profile c = refl
-    go AnnexB c = refl
+unserved-acts t e = grind (arith, timing, error)
 
 -- UI in these states, and an I-frame
 unit-acts : (t : Terms) (octets : List ℕ) → Acts (unit_data t (malformed_below t code.O) octets) itself
@@ -53,10 +46,7 @@ module _ (t : Terms) (k : Known) (ran : LinkTimer → Bool) (l : Link) where
 
   -- By annex B the other side asks for an establishment.
   asked-4 : ((timer : LinkTimer) → ran timer ≡ false) → Row TeiAssigned (read_as t leave_unserved (establish_in_4 t)) (Some (Dm false))
-  asked-4 none = go t.reading
-    where
-      go : (r : Reading) → Good k ran (at TeiAssigned) (timing (by_reading r (leave_unserved (begun (in_state TeiAssigned l))) (establish_in_4 t (begun (in_state TeiAssigned l))))) (Some (Dm false))
-      go r = grind (arith, claims.same-4)
+  asked-4 none = grind (arith, Good, timing, begun, claims.same-4)
 
   -- State 4.
   in-4 : ((timer : LinkTimer) → ran timer ≡ false) → (b : Bool) (octets : List ℕ) (control : Control) → Row TeiAssigned (frame_in TeiAssigned t b octets control) (Some control)
@@ -74,13 +64,7 @@ module _ (t : Terms) (k : Known) (ran : LinkTimer → Bool) (l : Link) where
   -- UI in states 7 and 8
   unit-row : (here : State) (p : Bool) (octets : List ℕ) → Row here (deliver_unit t octets) (Some (Ui p)) → Row here leave_unserved (Some (Ui p)) → Row here (failed t code.O) (Some (Ui p))
       → Row here (unit_data t (long_unit_in_7_8 t) octets) (Some (Ui p))
-  unit-row here p octets told unserved fails = by-bit-of (nat_lt t.n201 (length octets)) t.reading
-    where
-      by-bit-of : (b : Bool) (r : Reading)
-          → Good k ran (at here) (timing (by_bit b (λ c. by_reading r (leave_unserved c) (failed t code.O c)) (deliver_unit t octets) (begun (in_state here l)))) (Some (Ui p))
-      by-bit-of false r = told
-      by-bit-of true Profile = unserved
-      by-bit-of true AnnexB = fails
+  unit-row here p octets told unserved fails = grind (arith, nat_lt, Good, timing, by_bit, failed, begun)
 
   -- State 7.
   module _ (facts : Facts Established) where

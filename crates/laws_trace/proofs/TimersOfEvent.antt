@@ -2,7 +2,7 @@
 use Rattle.laws_trace.proofs.Vocabulary.{true≢false, true, false}
 use Rattle.laws_trace.proofs.Vocabulary.{arith, ◌≡◌, ℕ, ◌&&◌, ◌||◌, Bool, cond, [], map, Option, Some, None, option_map, refl, sym, ap, ◌∙◌, subst, ◌⊎◌, inl, inr, All, option_to_list, option_map_or, All-head, Service, Parts, place_of-is, HasItsTimer, State, Terms, LinkTimer, Link, Given, runs, Config, next, Answer, NextFrame, gave, Line, link_in, link_of, link_number, place_in, state_of}
 use Rattle.laws_trace.proofs.Vocabulary.{state_in}
-use Rattle.laws_trace.proofs.Vocabulary.{terms, taken, next_of, IsInRange, terms_in_range, IsBy, timer_of, is_needed, left_by, HaveTheirTimers, T200, T203, fresh_link as fresh, Event, line_after as after, answer, line_frame_of as frame_of, IsSound, is_for, trace_frame_in as frame_in, seen, none-some, link_after, given, course}
+use Rattle.laws_trace.proofs.Vocabulary.{terms, taken, next_of, IsInRange, terms_in_range, IsBy, timer_of, is_needed, left_by, HaveTheirTimers, fresh_link as fresh, Event, line_after as after, answer, line_frame_of as frame_of, IsSound, is_for, trace_frame_in as frame_in, seen, none-some, link_after, given, course}
 use Rattle.model_link.specs.Events as link
 use Rattle.model_link.specs.Sound as link_sound
 use Rattle.laws_trace.proofs.TimersWatched.{Known, nothing_yet, listens, sends, control_in, learned}
@@ -14,7 +14,7 @@ use Rattle.laws_trace.proofs.OneLink.{frames_given, IsForeign, HasOne, HasNone, 
 use Rattle.laws_trace.proofs.TimerActs.{timing}
 use Rattle.laws_trace.proofs.TimerClaims.{Agrees, told_state, heard_by}
 use Rattle.laws_trace.proofs.TimerEvents.{ran_before, control_of, event-good}
-use Rattle.laws_trace.proofs.TimerOffers.{Offered, sent_known, given_sent, offer-good}
+use Rattle.laws_trace.proofs.TimerOffers.{Offered, given_sent, offer-good}
 use Rattle.laws_trace.proofs.TimersOfLine.{sent_at, seen-learns}
 use Rattle.laws_trace.proofs.Facts.{its-own}
 use Rattle.laws_trace.proofs.LineAtEnd.{link-at-end}
@@ -35,8 +35,7 @@ module _ (service : Service) (tei : ℕ) where
 
   -- a timer is needed where the link runs it
   pub needed-is : (l : Line) → HaveTheirTimers l → (timer : LinkTimer) → is_needed (timer_of service tei timer) l ≡ runs timer (link_of service tei l).running
-  needed-is l h T200 = grind (arith, off-fresh)
-  needed-is l h T203 = grind (arith, off-fresh)
+  needed-is l h timer = grind (arith, off-fresh)
 
 -- The link of a TEI that comes to the line is a fresh one.
 pub comes : (c : Config) (e : Event) (l : Line) → IsSound c l → (service : Service) (tei : ℕ) → place_in l tei ≡ None → link_of service tei (after c e l) ≡ fresh
@@ -107,19 +106,7 @@ module _ (c : Config) (ranged : IsInRange c) (l : Line) (s : IsSound c l) (timed
 
     stays-known : (place : ℕ) → place_in l tei ≡ Some place → (after_place : ℕ) → place_in (after c e l) tei ≡ Some after_place → new ≡ own
         → IsTrueOf service tei now_known (after c e l)
-    stays-known place on after_place there same =
-        let learned_is : now_known ≡ sent_known own.state k None =
-        ap (λ o. learned_so o (state_of service tei (after c e l))) (state-on service tei l place on)
-        ∙ ap (learned_so (told_state own.state)) (state-on service tei (after c e l) after_place there ∙ ap (λ (x : Link). told_state x.state) same)
-        ∙ (grind (arith, is_state, told_state, nothing_yet, seen-learns))
-        ∙ ap (λ o. cond (is_state 7 (told_state own.state) || is_state 8 (told_state own.state))
-        (option_map_or (sends k) o (option_map_or (listens (is_state 8 (told_state own.state) && is_state 7 (told_state own.state)) (is_state 7 (told_state own.state)) k) (control_in service tei (frame_by c e)) k)) nothing_yet)
-        (none-goes e x.begins)
-        ∙ ap (λ o. cond (is_state 7 (told_state own.state) || is_state 8 (told_state own.state))
-        (option_map_or (listens (is_state 8 (told_state own.state) && is_state 7 (told_state own.state)) (is_state 7 (told_state own.state)) k) o k) nothing_yet)
-        (no-control place on) in
-        subst (λ (y : Link). Agrees y.state now_known y.a y.s y.peer_busy) (sym same)
-        (subst (λ K. Agrees own.state K own.a own.s own.peer_busy) (sym learned_is) (grind arith))
+    stays-known place on after_place there same = grind (arith, state-on, told_state, is_state, nothing_yet, seen-learns, sends, listens, control_in, frame_by, none-goes, no-control, Agrees)
 
     none-known : IsTrueOf service tei now_known (after c e l)
     none-known = go (place_in l tei) refl (place_in (after c e l) tei) refl x.is
@@ -156,15 +143,10 @@ module _ (c : Config) (ranged : IsInRange c) (l : Line) (s : IsSound c l) (timed
 
     -- what is learned, where the TEI stays
     known-so : (there : ℕ) → place_in (after c e l) tei ≡ Some there → now_known ≡ learns_in own.state later.state
-    known-so there on =
-        ap (λ o. learned_so o (state_of service tei (after c e l))) (state-on service tei l x.place x.placed)
-        ∙ ap (learned_so (told_state own.state)) (state-on service tei (after c e l) there on ∙ ap (λ (y : Link). told_state y.state) x.is)
-        ∙ (grind (arith, is_state, told_state, nothing_yet, seen-learns))
+    known-so there on = grind (arith, state-on, told_state, is_state, nothing_yet, seen-learns)
 
     by-good : IsOther x.event → (there : ℕ) → place_in (after c e l) tei ≡ Some there → IsTrueOf service tei now_known (after c e l)
-    by-good o there on =
-        let g = event-good t k own sound range.k_high (own-timed x.place x.placed) agrees x.event o.no_offer o.no_cleared in
-        grind (arith, heard_by, control_of, known-so, is_state, told_state, sends, listens, control_in, frame_by, nothing_yet)
+    by-good h there on = grind (arith, event-good, sound, range, own-timed, heard_by, control_of, known-so, is_state, told_state, sends, listens, control_in, frame_by, nothing_yet)
 
     -- an offer
     sent-is : e ≡ next → x.event ≡ link.offer → sent_at c service tei k e l ≡ option_map_or given_sent (given t own) None
@@ -185,17 +167,7 @@ module _ (c : Config) (ranged : IsInRange c) (l : Line) (s : IsSound c l) (timed
     offers = offer-good t k own sound agrees
 
     by-offer : e ≡ next → x.event ≡ link.offer → (there : ℕ) → place_in (after c e l) tei ≡ Some there → IsTrueOf service tei now_known (after c e l)
-    by-offer is offered there on =
-        let y = link_after t link.offer own in
-        let sent = option_map_or given_sent (given t own) None in
-        let i = is_state 7 (told_state y.state) in
-        let r = is_state 8 (told_state own.state) && i in
-        let known : now_known ≡ sent_known y.state k sent =
-        known-so there on ∙ ap (λ event. learns_in own.state (link_after t event own).state) offered
-        ∙ ap (λ o. cond (i || is_state 8 (told_state y.state)) (option_map_or (sends k) o (option_map_or (listens r i k) (control_in service tei (frame_by c e)) k)) nothing_yet) (sent-is is offered)
-        ∙ ap (λ e. cond (i || is_state 8 (told_state y.state)) (option_map_or (sends k) sent (option_map_or (listens r i k) (control_in service tei (frame_by c e)) k)) nothing_yet) is in
-        subst (λ (y : Link). Agrees y.state now_known y.a y.s y.peer_busy) (sym (x.is ∙ ap (λ event. link_after t event own) offered))
-        (subst (λ K. Agrees y.state K y.a y.s y.peer_busy) (sym known) offers.agrees)
+    by-offer is offered there on = grind (arith, link.offer, given_sent, given, is_state, told_state, known-so, sends, listens, control_in, frame_by, nothing_yet, sent-is, Agrees, offers)
 
     -- which of both it is
     pub either : {X : Type 0} → (IsOther x.event → X) → (e ≡ next → x.event ≡ link.offer → X) → X

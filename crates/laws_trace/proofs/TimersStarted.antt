@@ -1,5 +1,5 @@
 -- The timers of a link are started as they are due: each event of a line.
-use Rattle.laws_trace.proofs.Vocabulary.{arith, ◌≡◌, ℕ, ◌&&◌, ◌||◌, not, Bool, true, false, Option, Some, None, refl, sym, ap, ◌∙◌, subst, true≢false, inl, inr, option_map_or, Service, Timer, place_of-is, is_on-at, HasItsTimer, State, Terms, LinkTimer, Link, obeyed, runs, Config, Answer, orders_in, Line, link_of, place_in, has_tei, state_of, terms, IsInRange, timer_of, is_needed, left_by}
+use Rattle.laws_trace.proofs.Vocabulary.{arith, ◌≡◌, ℕ, ◌&&◌, ◌||◌, not, Bool, true, false, Option, Some, None, refl, sym, ap, ◌∙◌, true≢false, inl, inr, option_map_or, Service, Timer, place_of-is, is_on-at, HasItsTimer, State, Terms, LinkTimer, Link, obeyed, runs, Config, Answer, orders_in, Line, link_of, place_in, has_tei, state_of, terms, IsInRange, timer_of, is_needed, left_by}
 use Rattle.laws_trace.proofs.Vocabulary.{HaveTheirTimers, followed, timely-line, List, ◌++◌, Order, order_for, orders_for, T200, T203, Event, line_after as after, answer, IsSound, seen, and-false, and-true, offer, link_after, given, course, TimerT203, TimerT200}
 use Rattle.model_link.specs.Sound as link_sound
 use Rattle.laws_trace.proofs.TimersWatched.{Known, control_in, renews, is_anew}
@@ -73,9 +73,7 @@ module _ (c : Config) (ranged : IsInRange c) (l : Line) (s : IsSound c l) (timed
 
     none-due : (place there : ℕ) → place_in l tei ≡ Some place → place_in (after c e l) tei ≡ Some there → new.state ≡ own.state
         → control_in service tei (frame_by c e) ≡ None → is_due ≡ false
-    none-due place there on stays same control =
-        (grind (arith, is_anew, state-on, told_state, differ, is_state, seen-brings, renews))
-        ∙ ap (λ b. b || (is_state 7 (told_state own.state) && false)) (differ-same own.state) ∙ and-false (is_state 7 (told_state own.state))
+    none-due place there on stays same control = grind (arith, is_anew, state-on, told_state, differ, is_state, seen-brings, renews, differ-same, and-false)
 
     abbrev Started : Type 0
     Started = was ≡ true → is_needed its (after c e l) ≡ true → obeyed its false (orders_in a) ≡ is_due
@@ -140,13 +138,7 @@ module _ (c : Config) (ranged : IsInRange c) (l : Line) (s : IsSound c l) (timed
     IsStarted ran = obeyed its false (orders_in a) ≡ (obeyed its ran (orders_in a) && (not ran || is_due))
 
     pub event-started : IsStarted was
-    event-started = go was refl (is_needed its (after c e l)) refl
-      where
-        go : (b : Bool) → was ≡ b → (d : Bool) → is_needed its (after c e l) ≡ d → IsStarted was
-        go false is d on = subst IsStarted (sym is) (sym (and-true (obeyed its false (orders_in a))))
-        go true is false off = never-started is off ∙ ap (λ b. b && (not was || is_due)) (sym (followed c e l its ranged s timed ∙ off))
-        go true is true on =
-            started is on ∙ sym (ap (λ b. b && (not was || is_due)) (followed c e l its ranged s timed ∙ on) ∙ ap (λ b. not b || is_due) is)
+    event-started = grind (arith, and-true, obeyed, never-started, followed, started)
 
   -- What is ordered of the timers of the link: one is started as its orders start it, and stopped where it runs no more.
   rebuild : (its : Timer) (p q r p' q' r' : Bool) → p ≡ p' → q ≡ q' → r ≡ r' → order_by p q r its ≡ order_by p' q' r' its

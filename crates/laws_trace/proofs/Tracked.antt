@@ -1,5 +1,5 @@
 -- What an observer of a line knows of its TEI management, of whatever side, and what an answer shows of it.
-use Rattle.laws_trace.proofs.Vocabulary.{◌≡◌, ℕ, ◌==◌, Bool, true, false, cond, List, [], ◌∷◌, map, take, slice_get, filter, Option, Some, None, IfSome, option_map, refl, sym, ap, ◌∙◌, subst, ◌⊎◌, inl, inr, arith, option_map_or, none-some, Ui, Service, Parts, reading, Result, ReadFault, sapi_of, Management, Config, Aim}
+use Rattle.laws_trace.proofs.Vocabulary.{◌≡◌, ℕ, ◌==◌, Bool, true, false, cond, List, [], ◌∷◌, map, take, slice_get, filter, Option, Some, None, IfSome, option_map, refl, sym, ap, ◌∙◌, ◌⊎◌, inl, inr, arith, option_map_or, none-some, Ui, Service, Parts, reading, Result, ReadFault, sapi_of, Management, Config, Aim}
 use Rattle.laws_trace.proofs.Vocabulary.{at_none, at_link, of_aim, next, Answer, LineTold, gave, orders_in, Line, link_at, terms, service_at, aim_of, management_sapi, Taken, taken, next_of, line_of, at_requested, at_deactivated, lost_in, IsOne, taken-one, unwrap_or, Event, told, line_after as after, answer, IsSound, result_ok, Managed, is_of_teis, is_of_line, IsAsDue}
 use Rattle.laws_trace.proofs.Vocabulary.{trace_frame_in as frame_in, offer, LinkEvent, LinkRequest, link_told, own_side, reading-again}
 use Rattle.laws_trace.proofs.Vocabulary.{Timer, expiry, place_in}
@@ -70,36 +70,19 @@ module _ (c : Config) (l : Line) where
   link-aims service tei place event = grind (arith, none-of-teis, link_told, link-others, told-orders)
 
   pub asked-aims : (service : Service) (tei : ℕ) (asked : LinkRequest) (o : Option ℕ) → IsUnmanaged (at_requested service tei asked o)
-  asked-aims service tei asked None = none-aims _ refl refl
-  asked-aims service tei asked (Some place) = link-aims service tei place _
+  asked-aims service tei asked o = grind (arith, none-aims, link-aims)
 
   pub deactivated-aims : (service : Service) (tei : ℕ) (o : Option ℕ) → IsUnmanaged (at_deactivated service tei o)
-  deactivated-aims service tei None = none-aims _ refl refl
-  deactivated-aims service tei (Some place) = link-aims service tei place _
+  deactivated-aims service tei o = grind (arith, none-aims, link-aims)
 
   pub unmanaged-shows : (e : Event) (d : Managed) (aim : Aim) → IsQuiet d → Tracks c d l.management l.own → is_management (aim_of c e l) ≡ false → IsUnmanaged aim
       → let y = of_aim c aim l in Shows c l e d (told y.told) y.line
-  unmanaged-shows e d aim quiet tracks none x =
-      let y = of_aim c aim l in
-      record {
-        as_due = record {
-          notes = x.others ∙ sym quiet.notes;
-          orders = x.orders ∙ sym quiet.orders;
-          begins = sym (ap (map (message_text c)) quiet.begins);
-          granted = none-granted d quiet.granted true;
-        };
-        lost = inr (quiet.lost, none);
-        follows = subst (λ m. Tracks c d m y.line.own) (sym x.stays) (subst (Tracks c d l.management) (sym x.own) tracks);
-      }
+  unmanaged-shows e d aim quiet tracks none x = grind (arith, none-granted)
 
   -- An expiry of a link's timer.
   pub timer-shows : (d : Managed) → IsQuiet d → Tracks c d l.management l.own → (timer : Timer) (service : Service) (tei : ℕ) (its : LinkTimer)
       → aim_of c (expiry timer) l ≡ at_timer service tei its (place_in l tei) → let y = of_aim c (at_timer service tei its (place_in l tei)) l in Shows c l (expiry timer) d (told y.told) y.line
-  timer-shows d quiet tracks timer service tei its is = go (place_in l tei) is
-    where
-      go : (o : Option ℕ) → aim_of c (expiry timer) l ≡ at_timer service tei its o → let y = of_aim c (at_timer service tei its o) l in Shows c l (expiry timer) d (told y.told) y.line
-      go None is = unmanaged-shows (expiry timer) d (at_none nothing) quiet tracks (ap is_management is) (none-aims nothing refl refl)
-      go (Some place) is = unmanaged-shows (expiry timer) d (at_link service tei place (expired its)) quiet tracks (ap is_management is) (link-aims service tei place (expired its))
+  timer-shows d quiet tracks timer service tei its is = grind (arith, told, unmanaged-shows, nothing, is_management, none-aims, expired, link-aims)
 
 -- Frames with SAPI 63.
 abbrev of_management : Result Parts ReadFault → Bool
@@ -149,8 +132,4 @@ module _ (c : Config) (l : Line) (s : IsSound c l) where
       → let new = option_map_or line_of (taken c l) l in managed_of c (taken c l) ≡ map (message_text c) d.begins → Tracks c d new.management new.own
       → Shows c l next d (answer c next l) (after c next l)
   unfolding after answer
-  next-shows d notes orders lost granted begins tracks = record {
-    as_due = record { notes = sym notes; orders = next-orders (taken c l) (taken-one c l s) ∙ sym orders; begins = begins; granted = none-granted d granted false };
-    lost = inl (sym lost);
-    follows = tracks;
-  }
+  next-shows d notes orders lost granted begins tracks = grind (arith, next-orders, taken, taken-one, none-granted)

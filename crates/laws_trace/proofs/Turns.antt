@@ -1,5 +1,5 @@
 -- Links take turns: over runs of a card of which a line is only called for its next frame.
-use Rattle.laws_trace.proofs.Vocabulary.{◌≡◌, ℕ, ◌+◌, ◌*◌, ◌/◌, ◌<◌, ◌≤◌, Bool, true, false, List, Result, refl, ap, arith, not, Address, Ui, ReadFault, Parts, spelling, reading-again, option_map_or, Control, is_ui, result_ok, Sender, exchanged, exchanged-back, cr_bit, ◌∙◌}
+use Rattle.laws_trace.proofs.Vocabulary.{◌≡◌, ℕ, ◌+◌, ◌*◌, ◌/◌, ◌<◌, ◌≤◌, Bool, true, false, List, Result, refl, ap, arith, not, Address, Ui, ReadFault, Parts, spelling, reading-again, option_map_or, Control, is_ui, result_ok, Sender, exchanged, exchanged-back}
 use Rattle.laws_trace.proofs.LinkNames.{named_in, is_of_a_link}
 use Rattle.laws_trace.proofs.ReadAgain.{read-again}
 use Rattle.lapd_frame.proofs.AddressField.{cr_bit-small}
@@ -23,8 +23,4 @@ by-bit : (bit : ℕ) → bit ≤ 1 → (sapi : ℕ) → (4 * sapi + 2 * bit) / 4
 by-bit bit few sapi = omega (arith, few)
 
 pub name-is : (sender : Sender) (a : Address) (c : Control) (info : List ℕ) → named_in sender.sapi (spelling sender (record { address = a; control = c; info = info })) ≡ record { sapi = a.sapi; tei = a.tei }
-name-is sender a c info =
-    let sapi : exchanged sender.sapi ((4 * exchanged sender.sapi a.sapi + 2 * cr_bit sender.side a.command) / 4) ≡ a.sapi =
-    ap (exchanged sender.sapi) (by-bit (cr_bit sender.side a.command) (cr_bit-small sender.side a.command) (exchanged sender.sapi a.sapi)) ∙ exchanged-back sender.sapi a.sapi in
-    let tei : (2 * a.tei + 1) / 2 ≡ a.tei = omega arith in
-    ap (λ n. record { sapi = n; tei = (2 * a.tei + 1) / 2 }) sapi ∙ ap (λ n. record { sapi = a.sapi; tei = n }) tei
+name-is sender a c info = grind (arith, exchanged, by-bit, cr_bit-small, exchanged-back)

@@ -160,12 +160,10 @@ by-request : (c : Config) (r : Request) (a : Answer) (units : List (List ℕ)) �
 by-request c r a units = grind (arith, append-nil)
 
 by-event : (c : Config) (e : Event) (a : Answer) (units : List (List ℕ)) → waits c e a units ≡ fold (traced c) units (seen e a)
-by-event c (request r) a units = by-request c r a units
-by-event c e a units = grind arith
+by-event c e a units = grind (arith, by-request)
 
 at-line : (c : Config) (e : Event) (a : Answer) (b : Bool) (units : List (List ℕ)) → cond b (waits c e a units) units ≡ fold (traced c) units (cond b (seen e a) [])
-at-line c e a true units = by-event c e a units
-at-line c e a false units = refl
+at-line c e a b units = grind (arith, by-event)
 
 abbrev unit_step : Config → ℕ → List (List ℕ) → Moment → List (List ℕ)
 unit_step c number units m = cond (m.event.line == number) (waits c m.event.what m.answer units) units

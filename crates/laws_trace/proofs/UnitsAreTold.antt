@@ -1,6 +1,6 @@
 -- Unit data that is heard is told: the law.
-use Rattle.laws_trace.proofs.Vocabulary.{arith, ◌≡◌, ℕ, ◌≤◌, ◌==◌, ◌&&◌, ◌||◌, Bool, true, false, List, length, Option, Some, None, refl, sym, ap, ◌∙◌, subst, true≢false, ◌⊎◌, inl, inr, Ok, is_some, ◌∷◌, ◌++◌, list_any, option_or, le-leb, none-some, User, Ui, Service, Parts, reading, sapi_of, service_of, in_ui_frame, in_sequence, within, event-unit, data-is, Terms, eligible_of, Link, notes-own}
-use Rattle.laws_trace.proofs.Vocabulary.{event-tells, Config, hears, Answer, heard_side, Line, link_of, place_in, state_of, terms, IsToGroup, IsInRange, line_at, at, notes_of, contents_in, is_unit_of, group-read, own-all, service-same, both-true, IsBy, card_answer as answer, eqb-true, Control, link_information_of as information_of, Event as LineEvent, IsSound, fresh, CardEvent as Event}
+use Rattle.laws_trace.proofs.Vocabulary.{arith, ◌≡◌, ℕ, ◌≤◌, ◌==◌, ◌&&◌, ◌||◌, Bool, true, false, List, length, Option, Some, None, refl, sym, ap, ◌∙◌, subst, true≢false, ◌⊎◌, inl, inr, Ok, is_some, ◌∷◌, ◌++◌, list_any, option_or, le-leb, none-some, User, Ui, Service, Parts, reading, sapi_of, service_of, in_ui_frame, in_sequence, within, event-unit, data-is, Terms, Link, notes-own}
+use Rattle.laws_trace.proofs.Vocabulary.{event-tells, Config, hears, Answer, heard_side, Line, link_of, place_in, state_of, terms, IsToGroup, IsInRange, line_at, at, notes_of, contents_in, is_unit_of, group-read, own-all, service-same, both-true, IsBy, card_answer as answer, eqb-true, Control, Event as LineEvent, IsSound, fresh, CardEvent as Event}
 use Rattle.laws_trace.proofs.Vocabulary.{after_all}
 use Rattle.laws_trace.proofs.Vocabulary.{AreAtLines, result_ok, is_for, Always, is_ui, link_told as told, stream_frame}
 use Rattle.model_link.specs.Events as link
@@ -54,9 +54,7 @@ module _ (c : Config) (ranged : IsInRange c) (l : Line) (s : IsSound c l) (servi
 
   -- to a link of a TEI on the line
   its-unit : (told t (link.received (link.frame f)) k).delivered ≡ None
-  its-unit =
-      data-is t k (link.received (link.frame f))
-      ∙ ap (λ control. in_sequence k.r (eligible_of t k (information_of control f.info))) (which-ui f.control ui).1
+  its-unit = grind (arith, data-is, link.received, link.frame, in_sequence, which-ui)
 
   due : within c.n201 (in_ui_frame f.control f.info) ≡ Some f.info
   due = grind (arith, which-ui, le-leb)

@@ -1,6 +1,6 @@
 -- Beats of a call on the circuit without clocks: so many beats later all that an end has sent is acknowledged.
-use Rattle.laws_time.proofs.Vocabulary.{All, All-cons, All-drop, All-head, All-nil, All-tail, All-take, All-weaker, AsksData, Beat, Begins, Carries, Circuit, Config, Face, Fits, Follows, IsDataOf, IsInRange, Line, Link, List, OctetEndpoint as Endpoint, Port, Ran, Wire, [], all-done, ap, arith, as_endpoint, as_wire, doing_all, doings_meant, drop, faces, faces-back, few-left, fold, framed}
-use Rattle.laws_time.proofs.Vocabulary.{frames_among, heard_in, inl, inr, left_of, length, length-append, length-drop, length-map, length-take-le, longest, longest_text, own_link, port_of, refl, subst, suc, sym, take, take-append-drop, terms, terms_in_range, with_first_of, ℕ, ◌*◌, ◌++◌, ◌+◌, ◌<◌, ◌∙◌, ◌∷◌, ◌≡◌, ◌≤◌}
+use Rattle.laws_time.proofs.Vocabulary.{All, All-cons, All-drop, All-head, All-nil, All-tail, All-take, All-weaker, AreOctets, AsksData, Beat, Begins, Carries, Circuit, Config, Face, Fits, Follows, IsDataOf, IsInRange, IsSoundPort, Line, Link, List, OctetEndpoint as Endpoint, Port, Ran, Wire, [], all-done, ap, arith, as_endpoint, as_wire, doing_all, doings_meant, drop, faces, faces-back, few-left}
+use Rattle.laws_time.proofs.Vocabulary.{fold, framed, frames_among, heard_in, left_of, length, length-append, length-drop, length-map, length-take-le, longest, longest_text, on-line, own_link, port_of, refl, sound-port, subst, suc, sym, take, take-append-drop, terms, terms_in_range, with_first_of, ℕ, ◌*◌, ◌++◌, ◌+◌, ◌<◌, ◌∙◌, ◌∷◌, ◌≡◌, ◌≤◌}
 use Rattle.model_bits.specs.Stream as stream
 use Rattle.model_link.specs.Sound as link_sound
 use Rattle.model_card.specs.ports.Port as port
@@ -12,29 +12,22 @@ use Rattle.laws_time.proofs.OfCircuit.AckedCall.{sum_all, far_sends, near_sends}
 use Rattle.laws_time.proofs.OfCircuit.AckedWire.{near_takes, far_takes}
 use Rattle.laws_time.proofs.OfCircuit.AckedOn as on
 use Rattle.laws_time.proofs.OfCircuit.AckedTally.{Tally, all-tally, heard_at, put_at}
-use Rattle.laws_time.proofs.OfCircuit.InBeats.{Octets, ran-asked, port-asked, way-asked}
-use Rattle.laws_time.proofs.OfCircuit.InBeatsAs.{first-way}
-use Rattle.laws_time.proofs.OfCircuit.InBeatsFrames.{Grown, grown-none, grown-one, one-way, behind-then}
-use Rattle.laws_time.proofs.OfCircuit.InBeatsKept.{On, Beaten, beaten-end, late-port, pulled-longer, fits, fits-far}
+use Rattle.laws_time.proofs.OfCircuit.InBeats.{Octets, ran-asked, port-asked}
+use Rattle.laws_time.proofs.OfCircuit.InBeatsFrames.{heard-in-time, put-more}
+use Rattle.laws_time.proofs.OfCircuit.InBeatsKept.{fits, fits-far}
 use Rattle.laws_time.proofs.OfCircuit.InBeatsRun as run
 use Rattle.laws_time.proofs.OfCircuit.InBeatsRun.{all_steps, ask, both_hear}
 use Rattle.laws_time.proofs.OfCircuit.InBeatsTold.{IsDataAt, are-talk, all-meant}
+use Rattle.laws_time.proofs.OfCircuit.Sender.{Fine}
+use Rattle.laws_time.proofs.OfCircuit.AgainRan.{Grown, beaten-end, grown-both, grown-none, late-port}
 
 -- What is put is what was heard, and what is in transit.
 put-count : (n201 : ℕ) (p : Port) (way received : List ℕ) (frames : List (List ℕ)) → Carries n201 p way received frames → length (frames_among p.items) ≡ length (heard_in n201 received) + length frames
-put-count n201 p way received frames h =
-    let all = sym (length-map (frames_among p.items) (λ octets. stream.frame octets)) ∙ ap length h.are ∙ length-append (heard_in n201 received) (framed frames) in
-    let some = length-map frames (λ octets. stream.frame octets) in omega (arith, all, some)
+put-count n201 p way received frames h = grind (arith, length-map, length-append)
 
 module _ (l : Line) (fit : Begins l) where
-  abbrev here : IsInRange l.near
-  here = fit.call.near.0
-
   abbrev there : IsInRange l.far
   there = fit.call.far.0
-
-  abbrev size : ℕ
-  size = l.near.n201
 
   abbrev face : Face l.near l.far
   face = faces l.near l.far fit.call.opposite
@@ -87,11 +80,7 @@ module _ (l : Line) (fit : Begins l) where
   HasHeard s r = (more : List stream.Event) × (heard_in l.near.n201 (port_of r).received ≡ framed (frames_among (port_of s).items) ++ more)
 
   pub heard-all : (s r r' : Endpoint) (frames : List (List ℕ)) (n : ℕ) → Carries l.near.n201 (port_of s) s.way (port_of r).received frames → HasHeard s r' → heard_at l.near.n201 r' ≡ heard_at l.near.n201 r + n → length frames ≤ n
-  heard-all s r r' frames n carries all tallied =
-      let put = put-count l.near.n201 (port_of s) s.way (port_of r).received frames carries in
-      let heard = ap length all.1 ∙ length-append (framed (frames_among (port_of s).items)) all.0 in
-      let some = length-map (frames_among (port_of s).items) (λ octets. stream.frame octets) in
-      omega (arith, put, heard, some, tallied)
+  heard-all s r r' frames n carries all tallied = grind (arith, put-count, length-append, length-map)
 
   module _ (ds es fs : List StepAt) (one : All (IsDataAt l.service l.tei) ds) (two : All (IsDataAt l.service l.tei) es) (three : All (IsDataAt l.service l.tei) fs) (v : Circuit) (h : Now v) where
     abbrev v1 : Circuit
@@ -112,9 +101,6 @@ module _ (l : Line) (fit : Begins l) where
     g3 : Went fs (doing_all es (doing_all ds v)) g2.now
     g3 = goes fs three v2 g2.now
 
-    abbrev w : Wire
-    w = as_wire h.there h.back v
-
     abbrev ds' : List wire.StepAt
     ds' = doings_meant ds v
 
@@ -132,10 +118,10 @@ module _ (l : Line) (fit : Begins l) where
 
     -- heard at the far end, asked there, and heard at the near end
     there-first : HasHeard v.near v1.far → length h.there ≤ sum_all far_takes ds' (as_wire h.there h.back v)
-    there-first all = heard-all v.near v.far v1.far h.there (sum_all far_takes ds' w) h.follows.goes all (tally ds one v h).far_heard
+    there-first all = heard-all v.near v.far v1.far h.there (sum_all far_takes ds' (as_wire h.there h.back v)) h.follows.goes all (tally ds one v h).far_heard
 
     back-first : HasHeard v.far v1.near → length h.back ≤ sum_all near_takes ds' (as_wire h.there h.back v)
-    back-first all = heard-all v.far v.near v1.near h.back (sum_all near_takes ds' w) h.follows.comes all (tally ds one v h).near_heard
+    back-first all = heard-all v.far v.near v1.near h.back (sum_all near_takes ds' (as_wire h.there h.back v)) h.follows.comes all (tally ds one v h).near_heard
 
     far-asked : put_at v1.far < put_at v2.far → 1 ≤ sum_all far_sends es' (wire.doing_all ds' (as_wire h.there h.back v))
     far-asked more =
@@ -168,30 +154,30 @@ module _ (l : Line) (fit : Begins l) where
 
     pub near-acked : HasHeard v.near v1.far → put_at v1.far < put_at v2.far → HasHeard v2.far v3.near → (link_at v.near).s ≤ (link_at v3.near).a
     near-acked first asked last =
-        subst (λ (f : Wire). (own_link l.service l.tei w.near).s ≤ (own_link l.service l.tei f.near).a) same3
-        (on.near-acked l.service l.tei fit.call.terminal l.near l.far face back rt ru ds' es' fs' talk1 talk2 talk3 w h.weight h.on_wire (there-first first) (far-asked asked) (back-last last))
+        subst (λ (f : Wire). (own_link l.service l.tei (as_wire h.there h.back v).near).s ≤ (own_link l.service l.tei f.near).a) same3
+        (on.near-acked l.service l.tei fit.call.terminal l.near l.far face back rt ru ds' es' fs' talk1 talk2 talk3 (as_wire h.there h.back v) h.weight h.on_wire (there-first first) (far-asked asked) (back-last last))
 
     pub far-acked : HasHeard v.far v1.near → put_at v1.near < put_at v2.near → HasHeard v2.near v3.far → (link_at v.far).s ≤ (link_at v3.far).a
     far-acked first asked last =
-        subst (λ (f : Wire). (own_link l.service l.tei w.far).s ≤ (own_link l.service l.tei f.far).a) same3
-        (on.far-acked l.service l.tei fit.call.terminal l.near l.far face back rt ru ds' es' fs' talk1 talk2 talk3 w h.weight h.on_wire (back-first first) (near-asked asked) (there-last last))
+        subst (λ (f : Wire). (own_link l.service l.tei (as_wire h.there h.back v).far).s ≤ (own_link l.service l.tei f.far).a) same3
+        (on.far-acked l.service l.tei fit.call.terminal l.near l.far face back rt ru ds' es' fs' talk1 talk2 talk3 (as_wire h.there h.back v) h.weight h.on_wire (back-first first) (near-asked asked) (there-last last))
 
   -- ---- beats
 
   abbrev pub done : List Beat → Circuit → Circuit
   done bs v = doing_all (all_steps bs) v
 
-  pub one-done : (b : Beat) (bs : List Beat) (v : Circuit) → done (b ∷ bs) v ≡ done bs (run.beaten l here there b v)
+  pub one-done : (b : Beat) (bs : List Beat) (v : Circuit) → done (b ∷ bs) v ≡ done bs (run.beaten l fit.call.near.0 there b v)
   unfolding all_steps
-  one-done b bs v = run.steps-done l here there b (all_steps bs) v
+  one-done b bs v = run.steps-done l fit.call.near.0 there b (all_steps bs) v
 
   pub done-append : (xs ys : List Beat) (v : Circuit) → done (xs ++ ys) v ≡ done ys (done xs v)
   unfolding all_steps doing_all
   done-append [] ys v = refl
-  done-append (b ∷ xs) ys v = one-done b (xs ++ ys) v ∙ done-append xs ys (run.beaten l here there b v) ∙ ap (done ys) (sym (one-done b xs v))
+  done-append (b ∷ xs) ys v = one-done b (xs ++ ys) v ∙ done-append xs ys (run.beaten l fit.call.near.0 there b v) ∙ ap (done ys) (sym (one-done b xs v))
 
   pub data-steps : (bs : List Beat) → All (AsksData l) bs → All (IsDataAt l.service l.tei) (all_steps bs)
-  data-steps bs all = run.all-data l here there bs all
+  data-steps bs all = run.all-data l fit.call.near.0 there bs all
 
   pub goes-beats : (bs : List Beat) → All (AsksData l) bs → (v : Circuit) (h : Now v) → Now (done bs v)
   goes-beats bs all v h = (goes (all_steps bs) (data-steps bs all) v h).now
@@ -203,39 +189,35 @@ module _ (l : Line) (fit : Begins l) where
 
   pub record Ahead (n : ℕ) (v v' : Circuit) : Type 0 where
     pub stands : Stands v'
-    pub near : Grown l.near.n201 n (port_of v.near) (port_of v'.near)
-    pub far : Grown l.near.n201 n (port_of v.far) (port_of v'.far)
+    pub near : Grown n (port_of v.near) (port_of v'.near)
+    pub far : Grown n (port_of v.far) (port_of v'.far)
 
-  record Next (v v' : Circuit) : Type 0 where
-    near : Beaten l.near.n201 (port_of v.near) (port_of v'.near)
-    far : Beaten l.near.n201 (port_of v.far) (port_of v'.far)
+  abbrev IsGrown : ℕ → Circuit → Circuit → Type 0
+  IsGrown n v v' = Grown n (port_of v.near) (port_of v'.near) × Grown n (port_of v.far) (port_of v'.far)
 
-  one-next : (b : Beat) → AsksData l b → (v : Circuit) → Stands v → Next v (run.beaten l here there b v)
+  one-next : (b : Beat) → AsksData l b → (v : Circuit) → Stands v → IsGrown 1 v (run.beaten l fit.call.near.0 there b v)
   one-next b data_alone v h =
       let n = fold ask v.near b.near_asks in
       let f = fold ask v.far b.far_asks in
       let x = circuit.happens port.pull n in
       let y = circuit.happens port.pull f in
-      let near_octets = All-weaker (IsDataOf l) Octets (run.asks-octets l here there) b.near_asks data_alone.0 in
-      let far_octets = All-weaker (IsDataOf l) Octets (run.asks-octets l here there) b.far_asks data_alone.1 in
-      let near_ran = h.now.follows.near in let far_ran = h.now.follows.far in
-      let x_long = pulled-longer n ∙ ap (λ way. length way + 1) (way-asked b.near_asks v.near) ∙ ap (λ k. k + 1) h.long.near in
-      let y_long = pulled-longer f ∙ ap (λ way. length way + 1) (way-asked b.far_asks v.far) ∙ ap (λ k. k + 1) h.long.far in
-      record {
-        near = beaten-end l.near.n201 l.near (fits l fit) (port_of v.near) n (ran-asked l.near here b.near_asks near_octets v.near near_ran) (port-asked l.near here b.near_asks near_octets v.near near_ran)
-            y.way l.way y_long (port_of (both_hear x y).near) refl;
-        far = beaten-end l.near.n201 l.far (fits-far l fit) (port_of v.far) f (ran-asked l.far there b.far_asks far_octets v.far far_ran) (port-asked l.far there b.far_asks far_octets v.far far_ran)
-            (with_first_of y.way x).way l.way (ap length (first-way y.way x) ∙ x_long) (port_of (both_hear x y).far) (late-port (with_first_of y.way x).way y);
-      }
+      let near_octets = All-weaker (IsDataOf l) Octets (run.asks-octets l fit.call.near.0 there) b.near_asks data_alone.0 in
+      let far_octets = All-weaker (IsDataOf l) Octets (run.asks-octets l fit.call.near.0 there) b.far_asks data_alone.1 in
+      let near_ran = h.now.follows.near in let far_ran = h.now.follows.far in (
+        beaten-end l.near fit.call.near.0 (port_of v.near) n (ran-asked l.near fit.call.near.0 b.near_asks near_octets v.near near_ran) (port-asked l.near fit.call.near.0 b.near_asks near_octets v.near near_ran)
+            y.way (port_of (both_hear x y).near) refl,
+        beaten-end l.far there (port_of v.far) f (ran-asked l.far there b.far_asks far_octets v.far far_ran) (port-asked l.far there b.far_asks far_octets v.far far_ran)
+            (with_first_of y.way x).way (port_of (both_hear x y).far) (late-port (with_first_of y.way x).way y),
+      )
 
   pub stands-then : (bs : List Beat) → All (AsksData l) bs → (v : Circuit) → Stands v → Stands (done bs v)
-  stands-then bs all v h = record { now = goes-beats bs all v h.now; long = run.all-long l here there bs v h.long }
+  stands-then bs all v h = record { now = goes-beats bs all v h.now; long = run.all-long l fit.call.near.0 there bs v h.long }
 
-  pub beaten-is : (b : Beat) (v : Circuit) → done (b ∷ []) v ≡ run.beaten l here there b v
+  pub beaten-is : (b : Beat) (v : Circuit) → done (b ∷ []) v ≡ run.beaten l fit.call.near.0 there b v
   unfolding all_steps doing_all
   beaten-is b v = one-done b [] v
 
-  stands-beat : (b : Beat) → AsksData l b → (v : Circuit) → Stands v → Stands (run.beaten l here there b v)
+  stands-beat : (b : Beat) → AsksData l b → (v : Circuit) → Stands v → Stands (run.beaten l fit.call.near.0 there b v)
   stands-beat b data_alone v h = subst Stands (beaten-is b v) (stands-then (b ∷ []) (All-cons (AsksData l) b [] data_alone (All-nil (AsksData l))) v h)
 
   pub none-done : (v : Circuit) → done [] v ≡ v
@@ -243,17 +225,18 @@ module _ (l : Line) (fit : Begins l) where
   none-done v = refl
 
   pub ahead : (bs : List Beat) → All (AsksData l) bs → (v : Circuit) → Stands v → Ahead (length bs) v (done bs v)
-  ahead [] all v h = subst (Ahead 0 v) (sym (none-done v)) (record { stands = h; near = grown-none l.near.n201 (port_of v.near); far = grown-none l.near.n201 (port_of v.far) })
+  ahead [] all v h = subst (Ahead 0 v) (sym (none-done v)) (record { stands = h; near = grown-none (port_of v.near); far = grown-none (port_of v.far) })
   ahead (b ∷ bs) all v h =
       let is = All-head (AsksData l) b bs all in
-      let u = run.beaten l here there b v in
+      let u = run.beaten l fit.call.near.0 there b v in
       let one = one-next b is v h in
       let rest = ahead bs (All-tail (AsksData l) b bs all) u (stands-beat b is v h) in
+      let more : 1 + length bs ≡ suc (length bs) = omega arith in
       subst (Ahead (suc (length bs)) v) (sym (one-done b bs v))
       (record {
         stands = rest.stands;
-        near = grown-one l.near.n201 (length bs) (port_of v.near) (port_of u.near) (port_of (done bs u).near) one.near rest.near;
-        far = grown-one l.near.n201 (length bs) (port_of v.far) (port_of u.far) (port_of (done bs u).far) one.far rest.far;
+        near = subst (λ k. Grown k (port_of v.near) (port_of (done bs u).near)) more (grown-both 1 (length bs) (port_of v.near) (port_of u.near) (port_of (done bs u).near) one.0 rest.near);
+        far = subst (λ k. Grown k (port_of v.far) (port_of (done bs u).far)) more (grown-both 1 (length bs) (port_of v.far) (port_of u.far) (port_of (done bs u).far) one.1 rest.far);
       })
 
   -- ---- what is put comes, and something is put
@@ -261,65 +244,46 @@ module _ (l : Line) (fit : Begins l) where
   few-bits : (c : Config) (fits : Fits l.near.n201 c) (s : Endpoint) → Ran c s → length (left_of (port_of s)) ≤ longest_text l.near.n201
   few-bits c fits s ran = subst (λ n. length (left_of (port_of s)) ≤ longest_text n) fits.size (few-left c fits.ranged s ran)
 
-  put-more : (p q : Port) (n : ℕ) → Grown l.near.n201 n p q → longest l.near.n201 ≤ n → length (left_of p) ≤ longest_text l.near.n201 → length p.items < length q.items
-  put-more p q n g enough few =
-      let behind = behind-then l.near.n201 l.near.n201 p.items q (shorter (g.on p.items (longest_text l.near.n201) 0 (inr (refl, omega (arith, few))))) in
-      let more = ap length behind.is ∙ length-append p.items (behind.item ∷ behind.more) in omega (arith, more)
-    where
-      shorter : On l.near.n201 p.items (longest_text l.near.n201) q (0 + n) → On l.near.n201 p.items (longest_text l.near.n201) q (0 + longest l.near.n201)
-      shorter (inl behind) = inl behind
-      shorter (inr (same, few)) = inr (same, omega (arith, few, enough))
+  fine-of : (c : Config) (fits : Fits l.near.n201 c) (s : Endpoint) → Ran c s → All AreOctets (frames_among (port_of s).items) → Fine l.near.n201 (port_of s)
+  fine-of c fits s ran octets = record { sound = subst (λ n. IsSoundPort n (port_of s)) fits.size (sound-port c fits.ranged s ran); on = on-line c fits.ranged s ran; octets = octets }
+
+  pub near-fine : (v : Circuit) → Stands v → Fine l.near.n201 (port_of v.near)
+  near-fine v h = fine-of l.near (fits l fit) v.near h.now.follows.near h.now.follows.goes.octets
+
+  far-fine : (v : Circuit) → Stands v → Fine l.near.n201 (port_of v.far)
+  far-fine v h = fine-of l.far (fits-far l fit) v.far h.now.follows.far h.now.follows.comes.octets
+
+  -- From one end to the other.
+  heard-so : (m : ℕ) (s s' r' : Endpoint) (frames : List (List ℕ)) (k : Carries l.near.n201 (port_of s') s'.way (port_of r').received frames) → Fine l.near.n201 (port_of s) → Fine l.near.n201 (port_of s') → Grown m (port_of s) (port_of s') → length s'.way ≡ l.way → longest l.near.n201 + l.way ≤ m → length (left_of (port_of s)) ≤ longest_text l.near.n201 → HasHeard s r'
+  heard-so m s s' r' frames k fine fine' g long enough few =
+      let a = ap length k.given ∙ length-append (port_of r').received s'.way in let b = ap length g.given ∙ length-append (port_of s).given g.more in let c = g.long in
+      heard-in-time l.near.n201 l.near.n201 m (port_of s) (port_of s') fine fine' g (port_of r').received s'.way k.given few (omega (arith, a, b, c, long, enough))
 
   module _ (bs : List Beat) (all : All (AsksData l) bs) (v : Circuit) (h : Stands v) where
     whole : Ahead (length bs) v (done bs v)
     whole = ahead bs all v h
 
     pub asked-near : longest l.near.n201 ≤ length bs → put_at v.near < put_at (done bs v).near
-    asked-near enough = put-more (port_of v.near) (port_of (done bs v).near) (length bs) whole.near enough (few-bits l.near (fits l fit) v.near h.now.follows.near)
+    asked-near enough =
+        let few = few-bits l.near (fits l fit) v.near h.now.follows.near in
+        put-more l.near.n201 l.near.n201 (length bs) (port_of v.near) (port_of (done bs v).near) (near-fine v h) (near-fine (done bs v) whole.stands) whole.near (omega (arith, few, enough))
 
     pub asked-far : longest l.near.n201 ≤ length bs → put_at v.far < put_at (done bs v).far
-    asked-far enough = put-more (port_of v.far) (port_of (done bs v).far) (length bs) whole.far enough (few-bits l.far (fits-far l fit) v.far h.now.follows.far)
+    asked-far enough =
+        let few = few-bits l.far (fits-far l fit) v.far h.now.follows.far in
+        put-more l.near.n201 l.near.n201 (length bs) (port_of v.far) (port_of (done bs v).far) (far-fine v h) (far-fine (done bs v) whole.stands) whole.far (omega (arith, few, enough))
 
-    abbrev n : ℕ
-    n = longest l.near.n201
+    pub heard-far : longest l.near.n201 + l.way ≤ length bs → HasHeard v.near (done bs v).far
+    heard-far enough =
+        let a = h.now in let b = whole.stands.now in
+        heard-so (length bs) v.near (done bs v).near (done bs v).far b.there b.follows.goes (near-fine v h) (near-fine (done bs v) whole.stands) whole.near whole.stands.long.near enough
+        (few-bits l.near (fits l fit) v.near a.follows.near)
 
-    abbrev xs : List Beat
-    xs = take n bs
-
-    abbrev ys : List Beat
-    ys = drop n bs
-
-    module _ (enough : longest l.near.n201 + l.way ≤ length bs) where
-      one : Ahead (length xs) v (done xs v)
-      one = ahead xs (All-take (AsksData l) n bs all) v h
-
-      two : Ahead (length ys) (done xs v) (done ys (done xs v))
-      two = ahead ys (All-drop (AsksData l) n bs all) (done xs v) one.stands
-
-      long : length xs ≡ longest l.near.n201
-      long = length-take-le n bs (omega (arith, enough))
-
-      rest : l.way ≤ length ys
-      rest = let few = length-drop n bs in omega (arith, few, enough)
-
-      led : done ys (done xs v) ≡ done bs v
-      led = sym (done-append xs ys v) ∙ ap (λ es. done es v) (take-append-drop n bs)
-
-      pub heard-far : HasHeard v.near (done bs v).far
-      heard-far =
-          let a = h.now in let b = one.stands.now in let c = two.stands.now in
-          subst (λ (u : Circuit). HasHeard v.near u.far) led
-          (one-way l fit l.near.n201 l.near (fits l fit) v.near (done xs v).near v.far (done xs v).far (done ys (done xs v)).far (done ys (done xs v)).near a.follows.near b.follows.near (length ys)
-          (subst (λ k. Grown l.near.n201 k (port_of v.near) (port_of (done xs v).near)) long one.near) two.near (subst (λ k. Grown l.near.n201 k (port_of v.far) (port_of (done xs v).far)) long one.far) two.far
-          a.there b.there c.there a.follows.goes b.follows.goes c.follows.goes h.long.near rest (few-bits l.near (fits l fit) v.near a.follows.near))
-
-      pub heard-near : HasHeard v.far (done bs v).near
-      heard-near =
-          let a = h.now in let b = one.stands.now in let c = two.stands.now in
-          subst (λ (u : Circuit). HasHeard v.far u.near) led
-          (one-way l fit l.near.n201 l.far (fits-far l fit) v.far (done xs v).far v.near (done xs v).near (done ys (done xs v)).near (done ys (done xs v)).far a.follows.far b.follows.far (length ys)
-          (subst (λ k. Grown l.near.n201 k (port_of v.far) (port_of (done xs v).far)) long one.far) two.far (subst (λ k. Grown l.near.n201 k (port_of v.near) (port_of (done xs v).near)) long one.near) two.near
-          a.back b.back c.back a.follows.comes b.follows.comes c.follows.comes h.long.far rest (few-bits l.far (fits-far l fit) v.far a.follows.far))
+    pub heard-near : longest l.near.n201 + l.way ≤ length bs → HasHeard v.far (done bs v).near
+    heard-near enough =
+        let a = h.now in let b = whole.stands.now in
+        heard-so (length bs) v.far (done bs v).far (done bs v).near b.back b.follows.comes (far-fine v h) (far-fine (done bs v) whole.stands) whole.far whole.stands.long.far enough
+        (few-bits l.far (fits-far l fit) v.far a.follows.far)
 
   -- All that an end has sent is acknowledged 3 L + 2 D beats later.
   pub record Acked (v v' : Circuit) : Type 0 where

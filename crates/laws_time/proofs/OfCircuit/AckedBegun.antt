@@ -1,6 +1,7 @@
 -- A call with clocks and without noise: its first beat. So no timer falls due in a call of which T200 runs long enough.
-use Rattle.laws_time.proofs.Vocabulary.{All, All-cons, All-nil, AllByRecursion, AreInRange, AsksData, Beat, Begins, Bool, Circuit, Clocked, Config, Establish, Established, Face, IsClean, IsInRange, IsUndue, Lengths, Line, Link, List, NoneFallsDue, OctetEndpoint as Endpoint, Ran, Request, Service, StationStands, TeiAssigned, TimedEndpoint, [], ap, arith, as_endpoint, as_wire, asks, assigned}
-use Rattle.laws_time.proofs.Vocabulary.{beat, begins, calls, drop, end, endpoint, false, flags, fold, fresh_link as fresh, goes-on, gone, happens, hears, inl, inr, left_of, length, low_bits, not, obeyed, port-after, port_of, pulling, refl, stopped, subst, suc, sym, terms, true, with_first_of, within-ports, without_first_octet, ℕ, ◌/◌, ◌<◌, ◌∙◌, ◌∷◌, ◌≡◌, ◌≤◌}
+use Rattle.laws_time.proofs.Vocabulary.{All, All-cons, All-nil, AllByRecursion, AreInRange, AsksData, Beat, Begins, Bool, Circuit, Clocked, Config, Establish, Face, IsClean, IsInRange, IsUndue, Lengths, Line, Link, List, NoneFallsDue, OctetEndpoint as Endpoint, Ran, Request, Service, StationStands, TeiAssigned, TimedEndpoint, [], ap, arith, as_endpoint, as_wire, asks, assigned, beat, begins}
+use Rattle.laws_time.proofs.Vocabulary.{Established}
+use Rattle.laws_time.proofs.Vocabulary.{calls, drop, end, endpoint, false, flags, fold, fresh_link as fresh, goes-on, gone, happens, hears, inl, inr, left_of, length, low_bits, obeyed, port-after, port_of, pulling, refl, stopped, subst, suc, sym, terms, true, with_first_of, within-ports, without_first_octet, ℕ, ◌/◌, ◌<◌, ◌∙◌, ◌∷◌, ◌≡◌, ◌≤◌}
 use Rattle.model_card.specs.ports.Port as port
 use Rattle.laws_wire.specs.Call as call
 use Rattle.laws_wire.proofs.Beginning as beginning
@@ -9,7 +10,7 @@ use Rattle.laws_order.specs.circuit.Circuit.{receives, at_near, at_far, doing}
 use Rattle.laws_time.proofs.OfCircuit.AckedBeats.{Now, none-done, Stands}
 use Rattle.laws_time.proofs.OfCircuit.AckedCall.{Moves}
 use Rattle.laws_time.proofs.OfCircuit.AckedEnds.{its_link, Facts, facts-as, same-link, Due, Timed, timed-then, Held, beat-begins}
-use Rattle.laws_time.proofs.OfCircuit.AckedOurs.{link-ours, pull-ours}
+use Rattle.laws_time.proofs.OfCircuit.Ours.{link-ours, pull-ours}
 use Rattle.laws_time.proofs.OfCircuit.AckedRun.{EndHeld, beat-ends, OldAt, At}
 use Rattle.laws_time.proofs.OfCircuit.AckedSides.{cfg, rng, lens, end_of, link_of_end, face, facts, now-one, EndTimed, OnWire, none-moves}
 use Rattle.laws_time.proofs.OfCircuit.AckedStep.{ask_all, all-own, all-other, Asked, asks-run, hear-run}
@@ -60,7 +61,7 @@ module _ (service : Service) (tei : ℕ) (few : tei ≤ 126) (c : Config) (range
       let before = facts-first a.at is in
       let ev = port.request (Establish service tei) in
       timed-then service tei c ranged ls Old now a ev timed (goes-on c a.at ev (All-nil (λ octet. octet < 256)) timed.ran) before then tt
-      (link-ours service tei c d its_face a.at before.way before.place before.n before.stands (Establish service tei) (refl, refl))
+      (link-ours service tei c a.at before.way before.place before.n before.stands (Establish service tei) (refl, refl))
       (λ open_now open_then. let e : TeiAssigned ≡ Established = sym (ap (λ (l : Link). l.state) (own-stands service tei c 0 (as_endpoint [] a.at) (end (terms c service tei) fresh []) (same-first a.at is))) ∙ open_now.state in absurd (cc e))
 
 -- The first octet to receive leaves what is to be pulled.
@@ -99,10 +100,10 @@ module _ (l : Line) (fit : Begins l) (b : Beat) (data_alone : AsksData l b) (is_
   v0 = record { near = ask (pulling (suc l.way) (assigned l.near l.near_line l.tei)) ring; far = pulling (suc l.way) (assigned l.far l.far_line l.tei) }
 
   idle-near : idles.Idle l.service l.near fit.call.near.0 l.near_line l.tei fit.call.near.1 fit.call.terminal l.way n0
-  idle-near = first.idle-near l b [] 0 fit.call one-data one-clean undue
+  idle-near = first.idle-near l fit.call
 
   idle-far : idles.Idle l.service l.far fit.call.far.0 l.far_line l.tei fit.call.far.1 fit.call.terminal l.way f0
-  idle-far = first.idle-far l b [] 0 fit.call one-data one-clean undue
+  idle-far = first.idle-far l fit.call
 
   on-wire : OnWire l fit (as_wire [] [] v0) 4
   on-wire =
@@ -168,13 +169,10 @@ module _ (l : Line) (fit : Begins l) (b : Beat) (data_alone : AsksData l b) (is_
   near-asked : Asked l fit false Never moment IsAlike (λ s u x. x) (λ r octets s u x. alike-asked r s u x) a2 v1
   near-asked = asks-run l fit false Never moment IsAlike (λ s u x. x) (λ r octets s u x. alike-asked r s u x) b.near_asks data_alone.0 a1 v0 (record { in_call = now0; timed = a1-timed; rel = alike-ring })
 
-  abbrev z2 : TimedEndpoint
-  z2 = fold asks z0 b.far_asks
-
   abbrev v2 : Circuit
   v2 = ask_all l fit true b.far_asks (ask_all l fit false b.near_asks v0)
 
-  far-asked : Asked l fit true Never moment IsAlike (λ s u x. x) (λ r octets s u x. alike-asked r s u x) z2 v2
+  far-asked : Asked l fit true Never moment IsAlike (λ s u x. x) (λ r octets s u x. alike-asked r s u x) (fold asks z0 b.far_asks) v2
   far-asked =
       asks-run l fit true Never moment IsAlike (λ s u x. x) (λ r octets s u x. alike-asked r s u x) b.far_asks data_alone.1 z0 v1
       (record { in_call = near-asked.in_call; timed = z0-timed; rel = subst (Alike z0.at) (sym (all-other l fit false b.near_asks v0)) (alike-of z0.at f0 (idle-far.same ∙ sym z0-station)) })
@@ -190,21 +188,18 @@ module _ (l : Line) (fit : Begins l) (b : Beat) (data_alone : AsksData l b) (is_
 
   -- ---- the first pull
 
-  abbrev a3 : TimedEndpoint
-  a3 = happens port.pull a2
-
   abbrev z3 : TimedEndpoint
-  z3 = happens port.pull z2
+  z3 = happens port.pull (fold asks z0 b.far_asks)
 
-  near-twin : Twin l.way l.near a3.at v2.near
+  near-twin : Twin l.way l.near (happens port.pull a2).at v2.near
   near-twin =
-      subst (Twin l.way l.near a3.at) (sym near-is)
-      (first-end l l.near fit.call.near.0 l.near_line fit.call.near.1 fit.call.terminal (ring ∷ b.near_asks) (first.near-octets l b [] 0 fit.call one-data one-clean undue) a2 (asked-at b.near_asks a1))
+      subst (Twin l.way l.near (happens port.pull a2).at) (sym near-is)
+      (first-end l l.near fit.call.near.0 l.near_line fit.call.near.1 fit.call.terminal (ring ∷ b.near_asks) (first.near-octets l fit.call b data_alone) a2 (asked-at b.near_asks a1))
 
   far-twin : Twin l.way l.far z3.at v2.far
   far-twin =
       subst (Twin l.way l.far z3.at) (sym far-is)
-      (first-end l l.far fit.call.far.0 l.far_line fit.call.far.1 fit.call.terminal b.far_asks (first.far-octets l b [] 0 fit.call one-data one-clean undue) z2 (asked-at b.far_asks z0))
+      (first-end l l.far fit.call.far.0 l.far_line fit.call.far.1 fit.call.terminal b.far_asks (first.far-octets l fit.call b data_alone) (fold asks z0 b.far_asks) (asked-at b.far_asks z0))
 
   -- The link does not go on by it.
   pulled : (side : Bool) (a : TimedEndpoint) → EndTimed l fit side Never moment a → Alike a.at (end_of l fit side v2) → Alike (circuit.happens port.pull a.at) (end_of l fit side v2) → EndTimed l fit side Never moment (happens port.pull a)
@@ -216,22 +211,22 @@ module _ (l : Line) (fit : Begins l) (b : Beat) (data_alone : AsksData l b) (is_
       let its = its_link l.service l.tei (cfg l fit side) (rng l fit side) (lens l fit side) a.at in
       timed-then l.service l.tei (cfg l fit side) (rng l fit side) (lens l fit side) Never moment a port.pull timed (goes-on (cfg l fit side) a.at port.pull tt timed.ran) before
       (facts-as l.service l.tei (cfg l fit side) (rng l fit side) (lens l fit side) (circuit.happens port.pull a.at) (end_of l fit side v2) then f) tt
-      (pull-ours l.service l.tei (cfg l fit side) (cfg l fit (not side)) (face l fit side) a.at before.way before.place before.n before.stands)
+      (pull-ours l.service l.tei (cfg l fit side) a.at before.way before.place before.n before.stands)
       (λ open_now open_then. subst (Moves its) (sym link ∙ link_then) (none-moves its))
 
-  a3-timed : EndTimed l fit false Never moment a3
+  a3-timed : EndTimed l fit false Never moment (happens port.pull a2)
   a3-timed = pulled false a2 near-asked.timed (subst (Alike a2.at) (sym near-same) near-asked.rel) near-twin.same.alike
 
   z3-timed : EndTimed l fit true Never moment z3
-  z3-timed = pulled true z2 far-asked.timed far-asked.rel far-twin.same.alike
+  z3-timed = pulled true (fold asks z0 b.far_asks) far-asked.timed far-asked.rel far-twin.same.alike
 
   -- ---- each hears
 
   abbrev a4 : TimedEndpoint
-  a4 = hears b.near_noise z3.at.way a3
+  a4 = hears b.near_noise z3.at.way (happens port.pull a2)
 
   abbrev z4 : TimedEndpoint
-  z4 = hears b.far_noise a3.at.way z3
+  z4 = hears b.far_noise (happens port.pull a2).at.way z3
 
   abbrev v3 : Circuit
   v3 = doing (at_near receives) v2
@@ -240,10 +235,10 @@ module _ (l : Line) (fit : Begins l) (b : Beat) (data_alone : AsksData l b) (is_
   now3 = now-one l fit (at_near receives) tt v2 far-asked.in_call
 
   a4-timed : EndTimed l fit false Never moment a4
-  a4-timed = hear-run l fit false Never moment b.near_noise is_clean.0 z3.at.way a3 v2.near v2 far-asked.in_call a3-timed near-twin v2.near.way refl far-twin.same.way
+  a4-timed = hear-run l fit false Never moment b.near_noise is_clean.0 z3.at.way (happens port.pull a2) v2.near v2 far-asked.in_call a3-timed near-twin v2.near.way refl far-twin.same.way
 
   z4-timed : EndTimed l fit true Never moment z4
-  z4-timed = hear-run l fit true Never moment b.far_noise is_clean.1 a3.at.way z3 v2.far v3 now3 z3-timed far-twin (drop 1 v2.far.way) refl (first-way v2.far.way v2.near ∙ near-twin.same.way)
+  z4-timed = hear-run l fit true Never moment b.far_noise is_clean.1 (happens port.pull a2).at.way z3 v2.far v3 now3 z3-timed far-twin (drop 1 v2.far.way) refl (first-way v2.far.way v2.near ∙ near-twin.same.way)
 
   -- ---- so the beat ends
 
@@ -259,24 +254,24 @@ module _ (l : Line) (fit : Begins l) (b : Beat) (data_alone : AsksData l b) (is_
   pub stands-first : Stands l fit (both_hear v2.near v2.far)
   stands-first = record {
     now = now-one l fit (at_far receives) tt v3 now3;
-    long = subst (run.IsLong l fit.call.near.0 fit.call.far.0) (sym both-same) (first.first-is-long l b [] 0 fit.call one-data one-clean undue);
+    long = subst (run.IsLong l fit.call.near.0 fit.call.far.0) (sym both-same) (first.long-begun l fit.call (calls l b) (first.near-octets l fit.call b data_alone) (first.far-octets l fit.call b data_alone));
   }
 
   sim-first : run.Sim l fit.call.near.0 fit.call.far.0 w1 (both_hear v2.near v2.far)
-  sim-first = subst (run.Sim l fit.call.near.0 fit.call.far.0 w1) (sym both-same) (first.first-sim l b [] 0 fit.call one-data one-clean undue)
+  sim-first = subst (run.Sim l fit.call.near.0 fit.call.far.0 w1) (sym both-same) (first.sim-begun l fit.call (calls l b) (first.near-octets l fit.call b data_alone) (first.far-octets l fit.call b data_alone) is_clean undue-both.0 undue-both.1)
 
   pub few-left : length (left_of (port_of (both_hear v2.near v2.far).near)) ≤ 7
   few-left =
       let ran = far-asked.in_call.follows.near in
       let heard = left-heard l.near fit.call.near.0 v2.far.way v2.near ran in
-      let asked = ap (λ (s : Endpoint). left_of (port_of s)) near-is ∙ ap left_of (port-asked l.near fit.call.near.0 (ring ∷ b.near_asks) (first.near-octets l b [] 0 fit.call one-data one-clean undue) n0 idle-near.ran ∙ idle-near.port) ∙ left-plus l.way opened in
+      let asked = ap (λ (s : Endpoint). left_of (port_of s)) near-is ∙ ap left_of (port-asked l.near fit.call.near.0 (ring ∷ b.near_asks) (first.near-octets l fit.call b data_alone) n0 idle-near.ran ∙ idle-near.port) ∙ left-plus l.way opened in
       let none = ap length (heard ∙ asked) ∙ none-left in omega (arith, none)
 
-  near-gone : (gone l.rate (calls l b) (begins l)).near ≡ a3
+  near-gone : (gone l.rate (calls l b) (begins l)).near ≡ (happens port.pull a2)
   near-gone = ap (happens port.pull) (undue-stays (length a2.clock.running) a2 undue-both.0)
 
   far-gone : (gone l.rate (calls l b) (begins l)).far ≡ z3
-  far-gone = ap (happens port.pull) (undue-stays (length z2.clock.running) z2 undue-both.1)
+  far-gone = ap (happens port.pull) (undue-stays (length (fold asks z0 b.far_asks).clock.running) (fold asks z0 b.far_asks) undue-both.1)
 
   near-ends : without_first_octet a4 ≡ w1.near
   near-ends = λ i. without_first_octet (hears b.near_noise (sym far-gone i).at.way (sym near-gone i))
@@ -288,14 +283,10 @@ module _ (l : Line) (fit : Begins l) (b : Beat) (data_alone : AsksData l b) (is_
   link_in side a = link_of_end l fit side a.at
 
   near-link : link_in false a4 ≡ link_of_end l fit false (both_hear v2.near v2.far).near
-  near-link =
-      ap (λ (a : TimedEndpoint). link_in false a) near-ends
-      ∙ sym (same-link l.service l.tei l.near (rng l fit false) l.lengths w1.near.at (both_hear v2.near v2.far).near sim-first.near.same.alike)
+  near-link = grind (arith, near-ends, same-link, sim-first)
 
   far-link : link_in true z4 ≡ link_of_end l fit true (both_hear v2.near v2.far).far
-  far-link =
-      ap (λ (a : TimedEndpoint). link_in true a) far-ends
-      ∙ sym (same-link l.service l.tei l.far (rng l fit true) l.far_lengths w1.far.at (both_hear v2.near v2.far).far sim-first.far.same.alike)
+  far-link = grind (arith, far-ends, same-link, sim-first)
 
   abbrev OldFirst : Bool → ℕ → ℕ → Type 0
   OldFirst side a m = OldAt l fit w1 (both_hear v2.near v2.far) 0 refl stands-first side [] a m

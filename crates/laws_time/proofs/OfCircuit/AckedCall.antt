@@ -35,8 +35,7 @@ turn (at_near act) = at_far act
 turn (at_far act) = at_near act
 
 doing-turned : (k : StepAt) (w : Wire) → doing (turn k) (turned w) ≡ turned (doing k w)
-doing-turned (at_near act) w = refl
-doing-turned (at_far act) w = refl
+doing-turned k w = grind arith
 
 pub turn-all : (es : List StepAt) (w : Wire) → doing_all (map turn es) (turned w) ≡ turned (doing_all es w)
 unfolding doing_all
@@ -44,12 +43,10 @@ turn-all [] w = refl
 turn-all (k ∷ ks) w = ap (doing_all (map turn ks)) (doing-turned k w) ∙ turn-all ks (doing k w)
 
 pub takes-turned : (k : StepAt) (w : Wire) → near_takes (turn k) (turned w) ≡ far_takes k w
-takes-turned (at_near act) w = refl
-takes-turned (at_far act) w = refl
+takes-turned k w = grind arith
 
 pub sends-turned : (k : StepAt) (w : Wire) → far_sends (turn k) (turned w) ≡ near_sends k w
-sends-turned (at_near act) w = refl
-sends-turned (at_far act) w = refl
+sends-turned k w = grind arith
 
 pub sum-turned : (f g : StepAt → Wire → ℕ) → ((k : StepAt) (w : Wire) → f (turn k) (turned w) ≡ g k w) → (es : List StepAt) (w : Wire) → sum_all f (map turn es) (turned w) ≡ sum_all g es w
 unfolding sum_all
@@ -84,10 +81,7 @@ module _ (service : Service) (tei : ℕ) where
       let two = infos-append (read_as c x) (parts_in service tei c xs) in omega (arith, rest, one, two)
 
   pub grows : (c : Config) (t r r' s s' : ℕ) (way way' : List (List ℕ)) → Flows service tei c t r way r' way' → r + infos (parts_in service tei c way) ≡ s → r' + infos (parts_in service tei c way') ≡ s' → (r ≤ r') × (s ≤ s')
-  grows c t r r' s s' way way' (inl (none, same, (new, is))) h g =
-      let sum = ap (λ x. infos (parts_in service tei c x)) is ∙ parts-append c way new in (omega (arith, same), omega (arith, h, g, same, sum))
-  grows c t r r' s s' way way' (inr (one, (o, is, more))) h g =
-      let sum = ap (λ x. infos (parts_in service tei c x)) is ∙ infos-append (read_as c o) (parts_in service tei c way') in (omega (arith, more), omega (arith, h, g, more, sum))
+  grows c t r r' s s' way way' h1z h2z h3z = grind (arith, parts-append, infos-append)
 
   -- ---- both ends are up, whatever was granted and told before
 

@@ -77,21 +77,17 @@ module _ (service : Service) (tei : ℕ) (c : Config) (ranged : IsInRange c) (ls
           (m : ℕ) → moment_of a.at.line (timers.T200 service tei) clock.running ≡ Some m
           → Claim (Due now) (link_of service tei (line_at a.at.line card)) m
 
-      abbrev l : Link
-      l = its_link a.at
-
       abbrev l' : Link
       l' = its_link (happens ev a).at
 
       less : Awaits l' → Open l' → l'.a < l'.s
-      less (inl is) open_then = not-both l' open_then is
-      less (inr (open_now, more)) open_then = more
+      less h1z h2z = grind (arith, not-both)
 
-      goes-on : (m : ℕ) → Due now l.a l.s m → l'.a ≡ l.a → l.s ≤ l'.s → Due now l'.a l'.s m
+      goes-on : (m : ℕ) → Due now (its_link a.at).a (its_link a.at).s m → l'.a ≡ (its_link a.at).a → (its_link a.at).s ≤ l'.s → Due now l'.a l'.s m
       goes-on m (inl old) same more = inl (subst (λ n. Old n m) (sym same) old)
       goes-on m (inr (low, late)) same more = inr (omega (arith, low, same, more), late)
 
-      due : (m : ℕ) → Awaits l' → Open l' → (m ≡ a.clock.now + a.clock.lengths.t200) ⊎ ((t200_at c ranged service tei a ≡ Some m) × (Open l' → Open l × (l'.a ≡ l.a))) → Due now l'.a l'.s m
+      due : (m : ℕ) → Awaits l' → Open l' → (m ≡ a.clock.now + a.clock.lengths.t200) ⊎ ((t200_at c ranged service tei a ≡ Some m) × (Open l' → Open (its_link a.at) × (l'.a ≡ (its_link a.at).a))) → Due now l'.a l'.s m
       due m waits open_then (inl is) =
           let n = h.now_is in let t = ap (λ (ls : Lengths). ls.t200) h.lengths in let more = less waits open_then in inr (more, omega (arith, is, n, t))
       due m waits open_then (inr (was, kept)) = let k = kept open_then in let more = (moves k.0 open_then).sent in goes-on m ((h.claim m was).2 k.0) k.1 more

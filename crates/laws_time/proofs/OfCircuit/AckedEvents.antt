@@ -1,6 +1,6 @@
 -- T200 of an end in a call, event by event: until when it runs at least, by what is not acknowledged yet.
-use Rattle.laws_time.proofs.Vocabulary.{All-append, All-cons, All-nil, Answer, AreAtLines, Bool, Clock, Config, IsInRange, Link, List, None, Observed, OctetCard, Option, Ran, Service, Some, T200, TimedCard, TimedEndpoint, View, [], after_all-append, ap, arith, at, awaits, brings, by_event, by_frame_begun, card_of, eqb-true, expiry, false, fold, frame_in, frames_after_all, happens, inl, inr}
-use Rattle.laws_time.proofs.Vocabulary.{is_anew, is_multiple_frame, is_on, is_some, line_at, link_of, meant_all, meant_at_lines, moment_at, moment_of, nat_lt, next, not, obeyed, octet_at, on-line-now, option_map, orders_in, place_in, ports_fresh as fresh, refined_card, refl, renews, request, state_in, state_number, subst, sym, true, view_behind, view_of, ℕ, ◌%◌, ◌&&◌, ◌++◌, ◌+◌, ◌<◌, ◌==◌, ◌||◌}
+use Rattle.laws_time.proofs.Vocabulary.{All-append, All-cons, All-nil, Answer, AreAtLines, Bool, Clock, Config, IsInRange, Link, List, None, Observed, OctetCard, Option, Ran, Service, Some, T200, TimedCard, TimedEndpoint, View, [], after_all-append, ap, arith, at, awaits, brings, by_event, by_frame_begun, card_of, eqb-true, expiry, false, fold, frames_after_all, happens, inl, inr}
+use Rattle.laws_time.proofs.Vocabulary.{is_anew, is_multiple_frame, is_on, line_at, link_of, meant_all, meant_at_lines, moment_at, moment_of, nat_lt, not, obeyed, octet_at, on-line-now, orders_in, place_in, ports_fresh as fresh, refined_card, refl, renews, state_number, subst, sym, true, view_behind, view_of, ℕ, ◌%◌, ◌&&◌, ◌++◌, ◌+◌, ◌<◌, ◌==◌, ◌||◌}
 use Rattle.laws_time.proofs.Vocabulary.{◌∙◌, ◌∷◌, ◌≡◌, ◌⊎◌}
 use Rattle.lapd_frame.specs.declared.timers.Timer.TheVariants as timers
 use Rattle.model_line.specs.Event as line
@@ -32,10 +32,7 @@ begun-same c service tei (f ∷ fs) o = begun-same c service tei fs (by_frame_be
 
 event-same : (c : Config) (service : Service) (tei : ℕ) (what : line.Event) (a : Answer) (o : Observed) → IsNoExpiry what → o.state ≡ 7 → o.busy ≡ false → (by_event c service tei what a o).state ≡ 7 → awaits (by_event c service tei what a o) ≡ true
     → brings (renews T200 o.acknowledged o.busy) c service tei what ≡ false → (by_event c service tei what a o).acknowledged ≡ o.acknowledged
-event-same c service tei (hears e) a o is up free at_7 waits none = heard-same c o up free service tei e at_7 waits none
-event-same c service tei (request r) a o is up free at_7 waits none = grind arith
-event-same c service tei next a o is up free at_7 waits none = begun-same c service tei (frame_in a) o
-event-same c service tei (expiry timer) a o is up free at_7 waits none = absurd is
+event-same c service tei what a o h1z h2z h3z h4z h5z h6z = grind (arith, heard-same, begun-same)
 
 -- neither another state, nor a frame that renews it
 record NotAnew (o q : Observed) (renewed : Bool) : Type 0 where
@@ -67,8 +64,7 @@ module _ (c : Config) (ranged : IsInRange c) (service : Service) (tei : ℕ) whe
 
   on-at : (events : List frame_event.Event) (number : ℕ) (all : AreAtLines (cards.fresh c) events) (within : number < c.lines) (l : Line) → line_at number (frame_runs.after_all (cards.fresh c) events) ≡ l → IsOn l
       → is_on tei (view_of c service tei number events).teis ≡ true
-  on-at events number all within l is on =
-      on-line-now c events number ranged all within service tei ∙ ap (λ (l : Line). is_some (option_map (state_in l service) (place_in l tei))) is ∙ ap (λ o. is_some (option_map (state_in l service) o)) on.1
+  on-at events number all within l is on = grind (arith, on-line-now)
 
   module _ (a : TimedEndpoint) (ran : Ran c a.at) (ev : port.Event) where
     abbrev number : ℕ

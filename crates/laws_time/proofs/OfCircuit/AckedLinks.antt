@@ -1,10 +1,10 @@
 -- Two links in state 7: how many I-frames are in transit, and what the frames in transit acknowledge.
-use Rattle.laws_time.proofs.Vocabulary.{All, Bool, Control, Direction, Information, Informs, Lane, LinkEndpoint as Endpoint, List, None, Notes, Option, Parts, ReceiveReady, Seq, Some, Steady, Terms, [], ap, arith, eq-eqb, false, if◌then◌else◌, inl, inr, is-steady, is_information, lane-low, lane-order, le-ltb, length, may_send_information, named, received, refl, seq, slice_get, subst, sym, true}
+use Rattle.laws_time.proofs.Vocabulary.{All, Bool, Control, Direction, Information, Informs, Lane, LinkEndpoint as Endpoint, List, None, Notes, Option, Parts, ReceiveReady, Seq, Some, Steady, Terms, [], ap, arith, eq-eqb, false, if◌then◌else◌, inl, inr, is-steady, is_information, lane-low, lane-order, le-ltb, length, named, received, refl, seq, slice_get, subst, sym, true}
 use Rattle.laws_time.proofs.Vocabulary.{unwrap_or, with_link, with_sent, ℕ, ◌++◌, ◌+◌, ◌==◌, ◌∙◌, ◌∷◌, ◌≡◌, ◌≤◌}
 use Rattle.model_link.specs.Events.{frame}
 use Rattle.laws_link.proofs.OfTwo.BusyMoves.{takes-one, takes-note}
 use Rattle.laws_link.proofs.OfTwo.Halves.{named-number, fits-at}
-use Rattle.laws_link.proofs.OfTwo.Plain.{plain, plain_end, information_frame, acknowledgement_frame, gives-information, gives-acknowledgement, gives-nothing}
+use Rattle.laws_link.proofs.OfTwo.Plain.{information_frame, acknowledgement_frame, gives-information, gives-acknowledgement, gives-nothing}
 
 -- So many of these are I-frames.
 abbrev pub infos : List Parts → ℕ
@@ -123,15 +123,4 @@ module _ (n m : Endpoint) (hn : Steady n) (hm : Steady m) (there : Direction n m
 
 -- An end that is asked for its next frame has the same V(A), and owes no acknowledgement any more.
 pub sent-stays : (n : Endpoint) → Steady n → ((with_sent n).link.a ≡ n.link.a) × ((with_sent n).link.pending ≡ false)
-sent-stays n h = go (may_send_information n.terms (plain n.link)) refl n.link.pending refl
-  where
-    formed : (x : Endpoint) → with_sent (plain_end n) ≡ x → with_sent n ≡ record n { link = x.link; way = n.way ++ x.way }
-    formed x e = ap (λ (y : Endpoint). record n { link = y.link; way = n.way ++ y.way }) (ap with_sent (is-steady n h) ∙ e)
-
-    both : (x : Endpoint) → with_sent (plain_end n) ≡ x → x.link.a ≡ n.link.a → x.link.pending ≡ false → ((with_sent n).link.a ≡ n.link.a) × ((with_sent n).link.pending ≡ false)
-    both x e a owed = (ap (λ (y : Endpoint). y.link.a) (formed x e) ∙ a, ap (λ (y : Endpoint). y.link.pending) (formed x e) ∙ owed)
-
-    go : (may : Bool) → may_send_information n.terms (plain n.link) ≡ may → (owed : Bool) → n.link.pending ≡ owed → ((with_sent n).link.a ≡ n.link.a) × ((with_sent n).link.pending ≡ false)
-    go true e owed p = both _ (gives-information false false n e) refl refl
-    go false e true p = both _ (gives-acknowledgement false false n e p) refl refl
-    go false e false p = both _ (gives-nothing false false n e p) refl refl
+sent-stays n h = grind (arith, is-steady, gives-information, gives-acknowledgement, gives-nothing)

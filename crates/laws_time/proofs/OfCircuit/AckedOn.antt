@@ -146,12 +146,7 @@ module _ (service : Service) (tei : ℕ) (few : tei ≤ 126) (c d : Config) (fac
   near-place w weight (inr up) = inr (up, (open-now w up).0)
 
   pub far-place : (w : Wire) (weight : ℕ) → On w weight → ((own_link service tei w.far).state ≡ TeiAssigned) ⊎ Open (own_link service tei w.far)
-  far-place w weight (inl (inl h)) = inl (ap (λ (l : Link). l.state) (far-is unheard w (end u fresh []) h.both.far))
-  far-place w weight (inl (inr (inl h))) = inl (ap (λ (l : Link). l.state) (far-is unheard w (end u fresh []) h.both.far))
-  far-place w weight (inl (inr (inr (inl h)))) = inr (subst Open (sym (far-is second w (with_ua_waiting h.m) h.both.far)) (record { state = h.pair.far.state; free = h.pair.far.peer_busy; ordered = h.pair.far.sound.ordered; few = window h.m h.pair.far }))
-  far-place w weight (inl (inr (inr (inr (inl h))))) = inr (subst Open (sym (far-is second w (with_ua_first h.m) h.both.far)) (open-steady h.m h.pair.far))
-  far-place w weight (inl (inr (inr (inr (inr h))))) = inr (open-now w (called-up w h.n h.m h.talk)).1
-  far-place w weight (inr up) = inr (open-now w up).1
+  far-place w weight h1z = grind (arith, far-is, open-steady, open-now, called-up)
 
   -- the station at either end
   abbrev pub Station : Config → FrameEndpoint → Type 0
@@ -211,12 +206,7 @@ module _ (service : Service) (tei : ℕ) (few : tei ≤ 126) (c d : Config) (fac
   up-moves-far act is w (p, q, before, behind, h) = moves service tei d c q p back face behind before (at_near act) is (turned w) (up-turned p q before behind w h)
 
   far-none : (w : Wire) (weight : ℕ) → On w weight → Rings (own_link service tei w.near) → (own_link service tei w.far).a ≡ 0
-  far-none w weight (inl (inl h)) rings = ap (λ (l : Link). l.a) (far-is unheard w (end u fresh []) h.both.far)
-  far-none w weight (inl (inr (inl h))) rings = ap (λ (l : Link). l.a) (far-is unheard w (end u fresh []) h.both.far)
-  far-none w weight (inl (inr (inr (inl h)))) rings = let low = none-acked h.m h.pair in let is = ap (λ (l : Link). l.a) (far-is second w (with_ua_waiting h.m) h.both.far) in omega (arith, low, is)
-  far-none w weight (inl (inr (inr (inr (inl h))))) rings = let low = none-acked h.m h.pair in let is = ap (λ (l : Link). l.a) (far-is second w (with_ua_first h.m) h.both.far) in omega (arith, low, is)
-  far-none w weight (inl (inr (inr (inr (inr h))))) rings = both-not w (called-up w h.n h.m h.talk) rings
-  far-none w weight (inr up) rings = both-not w up rings
+  far-none w weight h1z h2z = grind (arith, far-is, none-acked, both-not, called-up)
 
   pub near-moves : (k : StepAt) → Talks k → (w : Wire) (weight : ℕ) → On w weight → Open (own_link service tei w.near) → Moves (own_link service tei w.near) (own_link service tei (doing k w).near)
   near-moves k is w weight h is_open = go (near-place w weight h)

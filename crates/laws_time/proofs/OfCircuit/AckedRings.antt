@@ -1,17 +1,17 @@
 -- Beats of a call on the circuit without clocks: so many beats after SABME was put both ends are up.
-use Rattle.laws_time.proofs.Vocabulary.{All, All-drop, All-take, AsksData, Beat, Begins, Circuit, Established, Line, List, Wire, ap, arith, as_wire, doing_all, doings_meant, drop, false, inl, inr, left_of, length, length-append, length-drop, length-take-le, longest, own_link, port_of, refl, subst, sym, take, take-append-drop, terms_in_range, true, ◌*◌, ◌+◌, ◌<◌, ◌∙◌, ◌∷◌, ◌≡◌, ◌≤◌}
+use Rattle.laws_time.proofs.Vocabulary.{All, All-drop, All-take, AsksData, Beat, Begins, Circuit, Established, Line, List, Wire, ap, arith, as_wire, doing_all, doings_meant, drop, false, left_of, length, length-drop, length-take-le, longest, own_link, port_of, subst, sym, take, take-append-drop, terms_in_range, true, ◌*◌, ◌+◌, ◌<◌, ◌∙◌, ◌≡◌, ◌≤◌}
 use Rattle.laws_wire.specs.Wire as wire
 use Rattle.laws_order.specs.circuit.Circuit.{StepAt}
-use Rattle.laws_time.proofs.OfCircuit.AckedBeats.{Now, Went, goes, tally, HasHeard, heard-all, done, done-append, data-steps, Stands, stands-then, ahead, asked-far, heard-far, heard-near}
+use Rattle.laws_time.proofs.OfCircuit.AckedBeats.{Now, Went, goes, tally, HasHeard, heard-all, done, done-append, data-steps, Stands, stands-then, ahead, asked-far, heard-far, heard-near, near-fine}
 use Rattle.laws_time.proofs.OfCircuit.AckedCall.{sum_all, far_sends}
 use Rattle.laws_time.proofs.OfCircuit.AckedOn as on
 use Rattle.laws_time.proofs.OfCircuit.AckedSides.{face, IsUpAt}
 use Rattle.laws_time.proofs.OfCircuit.AckedTally.{put_at}
 use Rattle.laws_time.proofs.OfCircuit.AckedUp.{both-up}
 use Rattle.laws_time.proofs.OfCircuit.AckedWire.{near_takes, far_takes}
-use Rattle.laws_time.proofs.OfCircuit.InBeatsKept.{On}
 unfoldable use Rattle.laws_time.proofs.OfCircuit.InBeatsRun.{all_steps}
 use Rattle.laws_time.proofs.OfCircuit.InBeatsTold.{IsDataAt, all-meant}
+use Rattle.laws_time.proofs.OfCircuit.InBeatsFrames.{put-more}
 
 module _ (l : Line) (fit : Begins l) where
   module _ (rs ds es fs : List StepAt) (zero_data : All (IsDataAt l.service l.tei) rs) (one : All (IsDataAt l.service l.tei) ds) (two : All (IsDataAt l.service l.tei) es) (three : All (IsDataAt l.service l.tei) fs) (v : Circuit) (h : Now l fit v) where
@@ -38,9 +38,6 @@ module _ (l : Line) (fit : Begins l) where
 
     g3 : Went l fit fs (doing_all es (doing_all ds (doing_all rs v))) g2.now
     g3 = goes l fit fs three v2 g2.now
-
-    abbrev w : Wire
-    w = as_wire h.there h.back v
 
     abbrev rs' : List wire.StepAt
     rs' = doings_meant rs v
@@ -72,22 +69,18 @@ module _ (l : Line) (fit : Begins l) where
         let back = subst (λ (f : Wire). length f.far.way ≤ sum_all near_takes fs' f) (sym same2)
         (heard-all l fit v2.far v2.near v3.near g2.now.back (sum_all near_takes fs' (as_wire g2.now.there g2.now.back v2)) g2.now.follows.comes last (tally l fit fs three v2 g2.now).near_heard) in
         let up = both-up l.service l.tei fit.call.terminal l.near l.far (face l fit false) (face l fit true) (terms_in_range l.near fit.call.near.0 l.service l.tei fit.call.terminal) (terms_in_range l.far fit.call.far.0 l.service l.tei fit.call.terminal)
-        rs' ds' es' fs' (all-meant l.service l.tei rs zero_data v) (all-meant l.service l.tei ds one v0) (all-meant l.service l.tei es two v1) (all-meant l.service l.tei fs three v2) w h.weight h.on_wire
+        rs' ds' es' fs' (all-meant l.service l.tei rs zero_data v) (all-meant l.service l.tei ds one v0) (all-meant l.service l.tei es two v1) (all-meant l.service l.tei fs three v2) (as_wire h.there h.back v) h.weight h.on_wire
         (omega (arith, put, first)) there (subst (λ f. 1 ≤ sum_all far_sends es' f) (sym same1) (omega (arith, put_far, asked))) back in
         subst (λ (f : Wire). (own_link l.service l.tei f.near).state ≡ Established) same3
         (on.by-up l.service l.tei fit.call.terminal l.near l.far (face l fit false) (face l fit true) (terms_in_range l.near fit.call.near.0 l.service l.tei fit.call.terminal) (terms_in_range l.far fit.call.far.0 l.service l.tei fit.call.terminal)
-        (wire.doing_all fs' (wire.doing_all es' (wire.doing_all ds' (wire.doing_all rs' w)))) up)
+        (wire.doing_all fs' (wire.doing_all es' (wire.doing_all ds' (wire.doing_all rs' (as_wire h.there h.back v))))) up)
 
   -- in beats
   module _ (v : Circuit) (h : Stands l fit v) (few : length (left_of (port_of v.near)) ≤ 7) where
     first-put : (bs : List Beat) → All (AsksData l) bs → length bs ≡ 1 → put_at v.near < put_at (done l fit bs v).near
     first-put bs all one =
-        let g = (ahead l fit bs all v h).near in
-        go (g.on (port_of v.near).items 7 0 (inr (refl, omega (arith, few))))
-      where
-        go : On l.near.n201 (port_of v.near).items 7 (port_of (done l fit bs v).near) (0 + length bs) → put_at v.near < put_at (done l fit bs v).near
-        go (inl behind) = let more = ap length behind.is ∙ length-append (port_of v.near).items (behind.item ∷ behind.more) in omega (arith, more)
-        go (inr (same, low)) = absurd (omega (arith, low, one))
+        let g = ahead l fit bs all v h in
+        put-more l.near.n201 l.near.n201 (length bs) (port_of v.near) (port_of (done l fit bs v).near) (near-fine l fit v h) (near-fine l fit (done l fit bs v) g.stands) g.near (omega (arith, few, one))
 
     up-in : (ks xs ys zs : List Beat) → All (AsksData l) ks → All (AsksData l) xs → All (AsksData l) ys → All (AsksData l) zs → length ks ≡ 1 → longest l.near.n201 + l.way ≤ length xs → longest l.near.n201 ≤ length ys → longest l.near.n201 + l.way ≤ length zs
         → IsUpAt l fit (done l fit zs (done l fit ys (done l fit xs (done l fit ks v))))

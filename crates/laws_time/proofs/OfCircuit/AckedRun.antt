@@ -1,5 +1,5 @@
 -- A call with clocks and without noise, beat by beat: no timer falls due.
-use Rattle.laws_time.proofs.Vocabulary.{All, All-append, All-cons, All-head, All-nil, All-tail, AsksData, AwaitingEstablishment, Beat, Begins, Bool, Circuit, Clocked, Established, Expiry, IsClean, IsInRange, IsUndue, Line, Link, List, NoneFallsDue, OctetEndpoint as Endpoint, Request, Some, TimedEndpoint, [], after, all-left, all-right, ap, append-nil, append_assoc, arith, asked, asks, beat}
+use Rattle.laws_time.proofs.Vocabulary.{All, All-append, All-cons, All-head, All-nil, All-tail, AsksData, AwaitingEstablishment, Beat, Begins, Bool, Circuit, Clocked, Expiry, IsClean, IsInRange, IsUndue, Line, Link, List, NoneFallsDue, OctetEndpoint as Endpoint, Request, Some, TimedEndpoint, [], after, all-left, all-right, ap, append-nil, append_assoc, arith, asked, asks, beat}
 use Rattle.laws_time.proofs.Vocabulary.{cases_lt, drop, due, false, fold, fold-append, gone, happens, hears, inl, inr, length, length-append, longest, refl, subst, suc, sym, true, without_first_octet, ℕ, ◌*◌, ◌++◌, ◌+◌, ◌/◌, ◌<◌, ◌∙◌, ◌∷◌, ◌≡◌, ◌≤◌, ◌⊎◌}
 use Rattle.lapd_frame.specs.declared.timers.Timer.TheVariants as timers
 use Rattle.model_card.specs.ports.Port as port
@@ -10,7 +10,7 @@ use Rattle.laws_time.proofs.OfCircuit.AckedOn.{Open}
 use Rattle.laws_time.proofs.OfCircuit.AckedSides.{cfg, rng, lens, end_of, link_of_end, now-one, EndTimed, IsUpAt, far-not-ringing}
 use Rattle.laws_time.proofs.OfCircuit.AckedStep.{ask_all, all-other, low-all, up-all, Asked, asks-run, pull-run, hear-run}
 use Rattle.laws_time.proofs.OfCircuit.AckedUndue.{is-t203, none-due}
-use Rattle.laws_time.proofs.OfCircuit.Answered.{beats-then}
+use Rattle.laws_time.proofs.OfCircuit.AgainRan.{beats-then}
 use Rattle.laws_time.proofs.OfCircuit.Ends.{at_time}
 use Rattle.laws_time.proofs.OfCircuit.InBeatsAs.{Twin, twin-event, ran-way, first-way}
 use Rattle.laws_time.proofs.OfCircuit.InBeatsDue.{Rule, Keeps, AreOnTime, on-time, AreKept, kept-beat, first-keeps, early}
@@ -21,9 +21,6 @@ use Rattle.laws_time.proofs.OfCircuit.InCallFair.{fewer}
 module _ (l : Line) (fit : Begins l) where
   abbrev here : IsInRange l.near
   here = fit.call.near.0
-
-  abbrev there : IsInRange l.far
-  there = fit.call.far.0
 
   abbrev pub EndHeld : Bool → (ℕ → ℕ → Type 0) → TimedEndpoint → Type 0
   EndHeld b Old a = Held l.service l.tei (cfg l fit b) (rng l fit b) (lens l fit b) Old a
@@ -76,7 +73,7 @@ module _ (l : Line) (fit : Begins l) where
 
     pub far-asked : Asked l fit true OldF (w.beats / l.rate) FarTwin (λ s u x. x.same.alike) (λ r octets s u x. twin-event l.way l.far fit.call.far.0 (port.request r) octets s u x) (fold asks (at_time (w.beats / l.rate) w.far) b.far_asks) v2
     far-asked =
-        asks-run l fit true OldF now FarTwin (λ s u x. x.same.alike) (λ r octets s u x. twin-event l.way l.far there (port.request r) octets s u x) b.far_asks data_alone.1 (at_time now w.far) v1
+        asks-run l fit true OldF now FarTwin (λ s u x. x.same.alike) (λ r octets s u x. twin-event l.way l.far fit.call.far.0 (port.request r) octets s u x) b.far_asks data_alone.1 (at_time now w.far) v1
         (record {
           in_call = near-asked.in_call;
           timed = beat-begins l.service l.tei (cfg l fit true) (rng l fit true) (lens l fit true) OldF now w.far far;
@@ -93,29 +90,26 @@ module _ (l : Line) (fit : Begins l) where
     abbrev z2 : TimedEndpoint
     z2 = happens port.pull z1
 
-    abbrev v3 : Circuit
-    v3 = doing (at_near sends) v2
-
     abbrev v4 : Circuit
     v4 = doing (at_far sends) (doing (at_near sends) v2)
 
-    now3 : Now l fit v3
+    now3 : Now l fit (doing (at_near sends) v2)
     now3 = now-one l fit (at_near sends) tt v2 far-asked.in_call
 
     now4 : Now l fit v4
-    now4 = now-one l fit (at_far sends) tt v3 now3
+    now4 = now-one l fit (at_far sends) tt (doing (at_near sends) v2) now3
 
     a2-timed : EndTimed l fit false OldN (w.beats / l.rate) a2
     a2-timed = pull-run l fit false OldN now a1 v2 far-asked.in_call near-asked.timed near-twin
 
     z2-timed : EndTimed l fit true OldF (w.beats / l.rate) z2
-    z2-timed = pull-run l fit true OldF now z1 v3 now3 far-asked.timed far-asked.rel
+    z2-timed = pull-run l fit true OldF now z1 (doing (at_near sends) v2) now3 far-asked.timed far-asked.rel
 
     a2-twin : NearTwin a2.at v4.near
     a2-twin = twin-event l.way l.near here port.pull tt a1.at v2.near near-twin
 
     z2-twin : FarTwin z2.at v4.far
-    z2-twin = twin-event l.way l.far there port.pull tt z1.at v2.far far-asked.rel
+    z2-twin = twin-event l.way l.far fit.call.far.0 port.pull tt z1.at v2.far far-asked.rel
 
     -- and each hears
     abbrev a3 : TimedEndpoint
@@ -148,17 +142,13 @@ module _ (l : Line) (fit : Begins l) where
       far-is = λ i. without_first_octet (hears b.far_noise (sym near-gone i).at.way (sym far-gone i))
 
       pub sim-then : run.Sim l fit.call.near.0 fit.call.far.0 (beat l.rate w b) (done l fit (b ∷ []) v)
-      sim-then = subst (run.Sim l here there (beat l.rate w b)) (sym (beaten-is l fit b v)) (run.one-beat l here there b data_alone is_clean w undue undue_far v sim)
+      sim-then = subst (run.Sim l here fit.call.far.0 (beat l.rate w b)) (sym (beaten-is l fit b v)) (run.one-beat l here fit.call.far.0 b data_alone is_clean w undue undue_far v sim)
 
       near-link : (link_of_end l fit false (done l fit (b ∷ []) v).near) ≡ link_of false a3
-      near-link =
-          same-link l.service l.tei (cfg l fit false) (rng l fit false) (lens l fit false) (beat l.rate w b).near.at (done l fit (b ∷ []) v).near sim-then.near.same.alike
-          ∙ sym (ap (λ (a : TimedEndpoint). link_of false a) near-is)
+      near-link = grind (arith, same-link, sim-then, near-is)
 
       far-link : (link_of_end l fit true (done l fit (b ∷ []) v).far) ≡ link_of true z3
-      far-link =
-          same-link l.service l.tei (cfg l fit true) (rng l fit true) (lens l fit true) (beat l.rate w b).far.at (done l fit (b ∷ []) v).far sim-then.far.same.alike
-          ∙ sym (ap (λ (a : TimedEndpoint). link_of true a) far-is)
+      far-link = grind (arith, same-link, sim-then, far-is)
 
       pub near-then : (New : ℕ → ℕ → Type 0) → ((a m : ℕ) → IsDue false OldN (w.beats / l.rate) a (link_of_end l fit false (done l fit (b ∷ []) v).near).s m → New a m) → EndHeld false New (beat l.rate w b).near
       near-then New more =
@@ -231,9 +221,6 @@ module _ (l : Line) (fit : Begins l) where
       -- If T200 of the near end has run once, its SABME is answered.
       module _ (b : Beat) (data_alone : AsksData l b) (is_clean : IsClean b) (long : most + l.rate < l.lengths.t200 * l.rate) (long_far : most + l.rate < l.far_lengths.t200 * l.rate)
           (answered : l.lengths.t200 ≤ w.beats / l.rate → IsUpAt l fit v) where
-        abbrev moment : ℕ
-        moment = w.beats / l.rate
-
         asked-near : Asked l fit false (OldAt false xs) (w.beats / l.rate) (λ s u. Twin l.way l.near s u) (λ s u x. x.same.alike) (λ r octets s u x. twin-event l.way l.near fit.call.near.0 (port.request r) octets s u x) (fold asks (at_time (w.beats / l.rate) w.near) b.near_asks) (ask_all l fit false b.near_asks v)
         asked-near = near-asked w v stands-now h.sim (OldAt false xs) (OldAt true xs) h.near h.far b data_alone is_clean
 
@@ -267,9 +254,7 @@ module _ (l : Line) (fit : Begins l) where
             subst (λ (x : Link). (link_of_end l fit true v.far).a ≤ x.a) far-same (subst (λ (s : Endpoint). (link_of_end l fit true s).a ≤ (link_of_end l fit true u2.far).a) (all-other l fit false b.near_asks v) one)
 
         not-ringing : (link_of false n1).state ≡ AwaitingEstablishment → l.lengths.t200 ≤ w.beats / l.rate → ⊥
-        not-ringing rings late =
-            let then = up-all l fit false b.near_asks data_alone.0 v stands-now.now (answered late) in
-            let e : Established ≡ AwaitingEstablishment = sym then ∙ ap (λ (x : Link). x.state) near-same ∙ rings in cc e
+        not-ringing rings late = grind (arith, up-all, stands-now, near-same)
 
         not-ringing-far : (link_of true f1).state ≡ AwaitingEstablishment → l.far_lengths.t200 ≤ w.beats / l.rate → ⊥
         not-ringing-far rings late = far-not-ringing l fit u2 asked-far.in_call (ap (λ (x : Link). x.state) far-same ∙ rings)
@@ -282,25 +267,22 @@ module _ (l : Line) (fit : Begins l) where
 
         pub near-first : (x : Expiry) → due n1.clock ≡ Some x → x.timer ≡ timers.T203 l.service l.tei
         near-first x is =
-            is-t203 l.service l.tei (cfg l fit false) (rng l fit false) (lens l fit false) (OldAt false xs) moment n1 asked-near.timed old-near not-ringing fit.lengths.0.t200 x is
+            is-t203 l.service l.tei (cfg l fit false) (rng l fit false) (lens l fit false) (OldAt false xs) (w.beats / l.rate) n1 asked-near.timed old-near not-ringing fit.lengths.0.t200 x is
 
         pub far-first : (x : Expiry) → due f1.clock ≡ Some x → x.timer ≡ timers.T203 l.service l.tei
         far-first x is =
-            is-t203 l.service l.tei (cfg l fit true) (rng l fit true) (lens l fit true) (OldAt true xs) moment f1 asked-far.timed old-far not-ringing-far fit.lengths.1.t200 x is
+            is-t203 l.service l.tei (cfg l fit true) (rng l fit true) (lens l fit true) (OldAt true xs) (w.beats / l.rate) f1 asked-far.timed old-far not-ringing-far fit.lengths.1.t200 x is
 
         abbrev IsLater : TimedEndpoint → Type 0
         IsLater a = (x : Expiry) → due a.clock ≡ Some x → x.timer ≡ timers.T203 l.service l.tei → w.beats / l.rate < x.moment
 
         pub near-undue : IsLater n1 → IsUndue (w.beats / l.rate) b.near_asks w.near
         near-undue later =
-            none-due l.service l.tei (cfg l fit false) (rng l fit false) (lens l fit false) (OldAt false xs) moment n1 asked-near.timed old-near not-ringing fit.lengths.0.t200 later
+            none-due l.service l.tei (cfg l fit false) (rng l fit false) (lens l fit false) (OldAt false xs) (w.beats / l.rate) n1 asked-near.timed old-near not-ringing fit.lengths.0.t200 later
 
         pub far-undue : IsLater f1 → IsUndue (w.beats / l.rate) b.far_asks w.far
         far-undue later =
-            none-due l.service l.tei (cfg l fit true) (rng l fit true) (lens l fit true) (OldAt true xs) moment f1 asked-far.timed old-far not-ringing-far fit.lengths.1.t200 later
-
-        abbrev ys : List Beat
-        ys = xs ++ b ∷ []
+            none-due l.service l.tei (cfg l fit true) (rng l fit true) (lens l fit true) (OldAt true xs) (w.beats / l.rate) f1 asked-far.timed old-far not-ringing-far fit.lengths.1.t200 later
 
         led : done l fit (b ∷ []) v ≡ done l fit (xs ++ b ∷ []) v1
         led = sym (done-append l fit xs (b ∷ []) v1)
@@ -324,12 +306,12 @@ module _ (l : Line) (fit : Begins l) where
         pub at-then : IsUndue (w.beats / l.rate) b.near_asks w.near → IsUndue (w.beats / l.rate) b.far_asks w.far → At (xs ++ b ∷ [])
         at-then undue undue_far = record {
           all = All-append (AsksData l) xs (b ∷ []) h.all (All-cons (AsksData l) b [] data_alone (All-nil (AsksData l)));
-          sim = subst (λ (x : Clocked). run.Sim l here there x (done l fit (xs ++ b ∷ []) v1)) after-so
-              (subst (run.Sim l here there (beat l.rate w b)) led (sim-then w v stands-now h.sim (OldAt false xs) (OldAt true xs) h.near h.far b data_alone is_clean undue undue_far));
-          near = subst (λ (x : Clocked). EndHeld false (OldAt false ys) x.near) after-so
-              (near-then w v stands-now h.sim (OldAt false xs) (OldAt true xs) h.near h.far b data_alone is_clean undue undue_far (OldAt false ys) (λ a m x. grown false a m x));
-          far = subst (λ (x : Clocked). EndHeld true (OldAt true ys) x.far) after-so
-              (far-then w v stands-now h.sim (OldAt false xs) (OldAt true xs) h.near h.far b data_alone is_clean undue undue_far (OldAt true ys) (λ a m x. grown true a m x));
+          sim = subst (λ (x : Clocked). run.Sim l here fit.call.far.0 x (done l fit (xs ++ b ∷ []) v1)) after-so
+              (subst (run.Sim l here fit.call.far.0 (beat l.rate w b)) led (sim-then w v stands-now h.sim (OldAt false xs) (OldAt true xs) h.near h.far b data_alone is_clean undue undue_far));
+          near = subst (λ (x : Clocked). EndHeld false (OldAt false (xs ++ b ∷ [])) x.near) after-so
+              (near-then w v stands-now h.sim (OldAt false xs) (OldAt true xs) h.near h.far b data_alone is_clean undue undue_far (OldAt false (xs ++ b ∷ [])) (λ a m x. grown false a m x));
+          far = subst (λ (x : Clocked). EndHeld true (OldAt true (xs ++ b ∷ [])) x.far) after-so
+              (far-then w v stands-now h.sim (OldAt false xs) (OldAt true xs) h.near h.far b data_alone is_clean undue undue_far (OldAt true (xs ++ b ∷ [])) (λ a m x. grown true a m x));
         }
 
     module _ (long : most + l.rate < l.lengths.t200 * l.rate) (long_far : most + l.rate < l.far_lengths.t200 * l.rate)

@@ -145,11 +145,7 @@ module _ (l : Line) (fit : Begins l) where
       (by-far (wire_of v h) (as_wire x.there' x.back' (doing (at_far act) v)) h.weight h.on_wire (act_meant act (turned v)) (one-meant l.service l.tei (at_far act) is v) x.same).low
 
   pub far-not-ringing : (v : Circuit) → Now l fit v → (link_of_end true v.far).state ≡ AwaitingEstablishment → ⊥
-  far-not-ringing v h is = go (on.far-place l.service l.tei fit.call.terminal l.near l.far (face false) (face true) (terms_in_range l.near fit.call.near.0 l.service l.tei fit.call.terminal) (terms_in_range l.far fit.call.far.0 l.service l.tei fit.call.terminal) (wire_of v h) h.weight h.on_wire)
-    where
-      go : ((own_link l.service l.tei (wire_of v h).far).state ≡ TeiAssigned) ⊎ Open (own_link l.service l.tei (wire_of v h).far) → ⊥
-      go (inl none) = let e : TeiAssigned ≡ AwaitingEstablishment = sym none ∙ is in cc e
-      go (inr open_now) = let e : Established ≡ AwaitingEstablishment = sym open_now.state ∙ is in cc e
+  far-not-ringing v h is = grind arith
 
   -- Once the near end is in state 7, it stays so.
   abbrev pub IsUpAt : Circuit → Type 0

@@ -6,7 +6,7 @@ use Rattle.laws_order.specs.circuit.Circuit as circuit
 use Rattle.laws_order.specs.circuit.Circuit.{requests, sends, receives, doing}
 use Rattle.laws_time.proofs.OfCircuit.AckedBeats.{Now}
 use Rattle.laws_time.proofs.OfCircuit.AckedEnds.{Facts, facts-as}
-use Rattle.laws_time.proofs.OfCircuit.AckedOurs.{link-ours, pull-ours, octet-ours}
+use Rattle.laws_time.proofs.OfCircuit.Ours.{link-ours, pull-ours, octet-ours}
 use Rattle.laws_time.proofs.OfCircuit.AckedSides.{cfg, rng, lens, end_of, at_end, face, link_of_end, facts, now-one, EndTimed, step-timed, IsOfOther, theirs, low, IsUpAt, up-stays}
 use Rattle.laws_time.proofs.OfCircuit.InBeatsAs.{Alike, Twin, twin-event}
 use Rattle.laws_time.proofs.OfCircuit.InBeatsRun.{ask}
@@ -19,16 +19,14 @@ module _ (l : Line) (fit : Begins l) where
   ask_all b (r ∷ rs) v = ask_all b rs (doing (at_end l fit b (requests r)) v)
 
   ask-own : (b : Bool) (r : Request) (v : Circuit) → end_of l fit b (doing (at_end l fit b (requests r)) v) ≡ ask (end_of l fit b v) r
-  ask-own false r v = refl
-  ask-own true r v = refl
+  ask-own b r v = grind arith
 
   pub all-own : (b : Bool) (rs : List Request) (v : Circuit) → end_of l fit b (ask_all b rs v) ≡ fold ask (end_of l fit b v) rs
   all-own b [] v = refl
   all-own b (r ∷ rs) v = all-own b rs (doing (at_end l fit b (requests r)) v) ∙ ap (λ s. fold ask s rs) (ask-own b r v)
 
   ask-other : (b : Bool) (r : Request) (v : Circuit) → end_of l fit (not b) (doing (at_end l fit b (requests r)) v) ≡ end_of l fit (not b) v
-  ask-other false r v = refl
-  ask-other true r v = refl
+  ask-other b r v = grind arith
 
   pub all-other : (b : Bool) (rs : List Request) (v : Circuit) → end_of l fit (not b) (ask_all b rs v) ≡ end_of l fit (not b) v
   all-other b [] v = refl
@@ -86,7 +84,7 @@ module _ (l : Line) (fit : Begins l) where
           record {
             in_call = now-one l fit (at_end l fit b (requests r)) (is-asked b r is) v h.in_call;
             timed = step-timed l fit b Old now (requests r) is v h.in_call ev tt a h.timed here (alike (ask a.at r) (end_of l fit b v') rel_then) (goes-on (cfg l fit b) a.at ev is.2 h.timed.ran)
-                (link-ours l.service l.tei (cfg l fit b) (cfg l fit (not b)) (face l fit b) a.at x.way x.place x.n x.stands r is);
+                (link-ours l.service l.tei (cfg l fit b) a.at x.way x.place x.n x.stands r is);
             rel = rel_then;
           }
       one other is a v h = absurd is
@@ -97,33 +95,21 @@ module _ (l : Line) (fit : Begins l) where
 
     -- A pull.
     pull-own : (v : Circuit) → end_of l fit b (doing (at_end l fit b sends) v) ≡ circuit.happens port.pull (end_of l fit b v)
-    pull-own v = go b
-      where
-        go : (b : Bool) → end_of l fit b (doing (at_end l fit b sends) v) ≡ circuit.happens port.pull (end_of l fit b v)
-        go false = refl
-        go true = refl
+    pull-own v = grind arith
 
     pub pull-run : (a : TimedEndpoint) (v : Circuit) → Now l fit v → Its a → Twin l.way (cfg l fit b) a.at (end_of l fit b v) → Its (happens port.pull a)
     pull-run a v h timed twin =
         let after = twin-event l.way (cfg l fit b) (rng l fit b) port.pull tt a.at (end_of l fit b v) twin in
         let x = facts-as l.service l.tei (cfg l fit b) (rng l fit b) (lens l fit b) a.at (end_of l fit b v) twin.same.alike (facts l fit b v h) in
         step-timed l fit b Old now sends tt v h port.pull tt a timed twin.same.alike (subst (Alike (circuit.happens port.pull a.at)) (sym (pull-own v)) after.same.alike) after.ran
-        (pull-ours l.service l.tei (cfg l fit b) (cfg l fit (not b)) (face l fit b) a.at x.way x.place x.n x.stands)
+        (pull-ours l.service l.tei (cfg l fit b) a.at x.way x.place x.n x.stands)
 
     -- An octet. The other end may have given more, or less, of what is in transit from here.
     hear-own : (v : Circuit) → end_of l fit b (doing (at_end l fit b receives) v) ≡ with_first_of (end_of l fit (not b) v).way (end_of l fit b v)
-    hear-own v = go b
-      where
-        go : (b : Bool) → end_of l fit b (doing (at_end l fit b receives) v) ≡ with_first_of (end_of l fit (not b) v).way (end_of l fit b v)
-        go false = refl
-        go true = refl
+    hear-own v = grind arith
 
     size-is : (cfg l fit b).n201 ≡ l.near.n201
-    size-is = go b
-      where
-        go : (b : Bool) → (cfg l fit b).n201 ≡ l.near.n201
-        go false = refl
-        go true = sym fit.call.opposite.1
+    size-is = grind arith
 
     with-way : (value : ℕ) (u : Endpoint) (way : List ℕ) (s : Endpoint) → Alike s (circuit.happens (port.octet value) u) → Alike s (circuit.happens (port.octet value) (record u { way = way }))
     with-way value u way s h = record { card = h.card; line = h.line; granted = h.granted; told = h.told }
@@ -133,7 +119,7 @@ module _ (l : Line) (fit : Begins l) where
     hear-run noise none [] a u v h timed twin left own other = timed
     hear-run noise none (value ∷ more) a u v h timed twin left own other =
         subst (λ o. Its (happens (port.octet (unwrap_or o value)) a)) (sym none)
-        (step-timed l fit b Old now receives tt v h (port.octet value) tt a timed here then after.ran (octet-ours l.service l.tei (cfg l fit b) (cfg l fit (not b)) (face l fit b) a.at x.way x.place x.n x.stands value theirs_here))
+        (step-timed l fit b Old now receives tt v h (port.octet value) tt a timed here then after.ran (octet-ours l.service l.tei (cfg l fit b) a.at x.way x.place x.n x.stands (cfg l fit (not b)) (face l fit b) value theirs_here))
       where
         here : Alike a.at (end_of l fit b v)
         here = subst (Alike a.at) (sym own) (record { card = twin.same.alike.card; line = twin.same.alike.line; granted = twin.same.alike.granted; told = twin.same.alike.told })

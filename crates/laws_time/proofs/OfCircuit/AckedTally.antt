@@ -37,17 +37,13 @@ sum-one f k w = omega arith
 
 -- What is done at one end is nothing at the other.
 far-none : (o : Option wire.Step) (f : Wire) → (sum_all far_takes (near_of o) f ≡ 0) × (sum_all far_sends (near_of o) f ≡ 0)
-far-none None f = (sum-none far_takes f, sum-none far_sends f)
-far-none (Some act) f = (sum-one far_takes (wire.at_near act) f, sum-one far_sends (wire.at_near act) f)
+far-none o f = grind (arith, sum-none, sum-one)
 
 near-none : (o : Option wire.Step) (f : Wire) → (sum_all near_takes (far_of o) f ≡ 0) × (sum_all near_sends (far_of o) f ≡ 0)
-near-none None f = (sum-none near_takes f, sum-none near_sends f)
-near-none (Some act) f = (sum-one near_takes (wire.at_far act) f, sum-one near_sends (wire.at_far act) f)
+near-none o f = grind (arith, sum-none, sum-one)
 
 turned-sums : (o : Option wire.Step) (f : Wire) → (sum_all far_takes (far_of o) f ≡ sum_all near_takes (near_of o) (wire.turned f)) × (sum_all far_sends (far_of o) f ≡ sum_all near_sends (near_of o) (wire.turned f))
-turned-sums None f = (sum-none far_takes f ∙ sym (sum-none near_takes (wire.turned f)), sum-none far_sends f ∙ sym (sum-none near_sends (wire.turned f)))
-turned-sums (Some act) f =
-    (sum-one far_takes (wire.at_far act) f ∙ sym (sum-one near_takes (wire.at_near act) (wire.turned f)), sum-one far_sends (wire.at_far act) f ∙ sym (sum-one near_sends (wire.at_near act) (wire.turned f)))
+turned-sums o f = grind (arith, sum-none, sum-one)
 
 module _ (size : ℕ) where
   pub record Tally (es : List wire.StepAt) (f : Wire) (v v' : Circuit) : Type 0 where
@@ -57,9 +53,6 @@ module _ (size : ℕ) where
     pub far_put : put_at v'.far ≡ put_at v.far + sum_all far_sends es f
 
   module _ (c d : Config) (fits : Fits size c) (fits_far : Fits size d) (v : Circuit) (there back : List (List ℕ)) (h : Follows size c d v there back) where
-    abbrev f : Wire
-    f = as_wire there back v
-
     -- at the near end
     record Own (o : Option wire.Step) (s : Endpoint) : Type 0 where
       heard : heard_at size s ≡ heard_at size v.near + sum_all near_takes (near_of o) (as_wire there back v)
@@ -129,9 +122,7 @@ module _ (size : ℕ) where
     own-one service tei receives is = heard-first v.far.way refl
 
     far-same : (act : Step) → (heard_at size (acting act v).far ≡ heard_at size v.far) × (put_at (acting act v).far ≡ put_at v.far)
-    far-same (requests r) = (refl, refl)
-    far-same sends = (refl, refl)
-    far-same receives = (refl, refl)
+    far-same act = grind arith
 
     near-tally : (service : Service) (tei : ℕ) (act : Step) → IsTalkOf service tei act → Tally (near_of (act_meant act v)) (as_wire there back v) v (acting act v)
     near-tally service tei act is =

@@ -7,7 +7,7 @@ use Rattle.laws_time.proofs.OfCircuit.AckedBegun.{heard_first, stands-first, few
 use Rattle.laws_time.proofs.OfCircuit.AckedRings.{up-by}
 use Rattle.laws_time.proofs.OfCircuit.AckedRun.{At, near-first, far-first, none-falls-due, at-all}
 use Rattle.laws_time.proofs.OfCircuit.AckedSides.{IsUpAt}
-use Rattle.laws_time.proofs.OfCircuit.Answered.{beats-then}
+use Rattle.laws_time.proofs.OfCircuit.AgainRan.{beats-then}
 use Rattle.laws_time.proofs.OfCircuit.InBeats.{a-call-takes-beats}
 use Rattle.laws_time.proofs.OfCircuit.InBeatsDue.{Rule, begins-on-time, begins-kept, on-time, kept-beat}
 use Rattle.laws_time.proofs.OfCircuit.InBeatsRun as run

@@ -1,6 +1,6 @@
 -- T200 of an end after an event: it was started anew, or it awaits the same answer as before.
-use Rattle.laws_time.proofs.Vocabulary.{AreAtLines, AwaitingEstablishment, Bool, Clock, Config, IsInRange, Link, List, None, Observed, Option, Parts, Service, Some, T200, TeiAssigned, Timer, anew, ap, arith, awaits, brings, by_frame, by_heard, cond, eq-eqb, eqb-true, false, frame_of, holds, if◌then◌else◌, inl, inr, is_anew, is_multiple_frame, is_some, is_up, its_frame, line_at, link_of}
-use Rattle.laws_time.proofs.Vocabulary.{ltb-false, ltb-true, malformed, moment_at, moment_of, nat_lt, not, numbers-now, obeyed, option_map_or, orders_in, place_in, refl, renews, runs, state_number, subst, sym, true, true≢false, view_behind, view_of, ℕ, ◌%◌, ◌&&◌, ◌+◌, ◌<◌, ◌==◌, ◌||◌, ◌∙◌, ◌≡◌, ◌≤◌, ◌⊎◌}
+use Rattle.laws_time.proofs.Vocabulary.{AreAtLines, AwaitingEstablishment, Bool, Clock, Config, IsInRange, Link, List, None, Observed, Option, Parts, Service, Some, T200, TeiAssigned, Timer, anew, ap, arith, awaits, brings, by_frame, by_heard, cond, eqb-true, false, frame_of, holds, if◌then◌else◌, inl, inr, is_anew, is_multiple_frame, is_some, is_up, its_frame, line_at, link_of}
+use Rattle.laws_time.proofs.Vocabulary.{ltb-false, ltb-true, malformed, moment_at, moment_of, nat_lt, not, numbers-now, obeyed, option_map_or, orders_in, place_in, refl, renews, runs, state_number, subst, sym, true, true≢false, view_behind, view_of, ℕ, ◌%◌, ◌&&◌, ◌+◌, ◌<◌, ◌||◌, ◌∙◌, ◌≡◌, ◌≤◌, ◌⊎◌}
 use Rattle.lapd_frame.specs.declared.timers.Timer.TheVariants as timers
 use Rattle.model_bits.specs.Stream as stream
 use Rattle.model_line.specs.Event as line
@@ -20,11 +20,7 @@ use Rattle.laws_time.proofs.OfCircuit.AckedOn.{Open}
 
 by-orders : (now was renewed : Bool) (due : ℕ) (before : Option ℕ) (m : ℕ) → (before ≡ Some m → was ≡ true) → cond (now && (not was || renewed)) (Some due) (cond (was && not now) None before) ≡ Some m
     → (now ≡ true) × ((m ≡ due) ⊎ ((before ≡ Some m) × (renewed ≡ false)))
-by-orders true true true due before m h is = (refl, inl (sym (cc is)))
-by-orders true true false due before m h is = (refl, inr (is, refl))
-by-orders true false renewed due before m h is = (refl, inl (sym (cc is)))
-by-orders false true renewed due before m h is = absurd (cc is)
-by-orders false false renewed due before m h is = absurd (true≢false (sym (h is)))
+by-orders now was renewed due before m h1z h2z = grind arith
 
 -- An event of the line, of a card that began, after these events.
 module _ (c : Config) (events : List frame_event.Event) (number : ℕ) (ranged : IsInRange c) (all : AreAtLines (cards.fresh c) events) (within : number < c.lines) (service : Service) (tei : ℕ) (what : line.Event) (k : Clock) where
@@ -88,27 +84,13 @@ IsFine l = (l.state ≡ TeiAssigned) ⊎ ((l.state ≡ AwaitingEstablishment) �
 abbrev pub Awaits : Link → Type 0
 Awaits l = (l.state ≡ AwaitingEstablishment) ⊎ (Open l × (l.a < l.s))
 
-differ : (a s : ℕ) → a < s → s ≤ a + 127 → (s % 128 == a % 128) ≡ false
-differ a s more few = go (s % 128 == a % 128) refl
-  where
-    go : (b : Bool) → (s % 128 == a % 128) ≡ b → b ≡ false
-    go false e = refl
-    go true e = let same = eqb-true (s % 128) (a % 128) e in absurd (omega (arith, same, more, few))
-
 module _ (o : Observed) (l : Link) (x : IsSeen o l) where
   open-known : Open l → (o.state ≡ 7) × (o.acknowledged ≡ l.a % 128) × (o.next ≡ l.s % 128) × (o.busy ≡ false)
   open-known h =
       let k = x.numbers (ap is_multiple_frame h.state) in (x.state ∙ ap state_number h.state, k.acknowledged, k.next, k.busy_is ∙ h.free)
 
   pub link-awaits : Awaits l → awaits o ≡ true
-  link-awaits (inl is) = let state = x.state ∙ ap state_number is in grind (arith, state)
-  link-awaits (inr (h, more)) =
-      let k = open-known h in
-      let apart : (o.next == o.acknowledged) ≡ false = (λ i. k.2 i == k.1 i) ∙ differ l.a l.s more h.few in
-      let state = k.0 in grind (arith, state, apart)
-
-  same-numbers : (n m : ℕ) → n ≡ m → (n == m) ≡ true
-  same-numbers n m e = eq-eqb n m e
+  link-awaits h1z = grind (arith, open-known)
 
   pub awaits-link : IsFine l → awaits o ≡ true → Awaits l
   awaits-link (inl is) waits = let state = x.state ∙ ap state_number is in absurd (true≢false (sym waits ∙ (grind (arith, state))))
@@ -116,10 +98,7 @@ module _ (o : Observed) (l : Link) (x : IsSeen o l) where
   awaits-link (inr (inr h)) waits = go (nat_lt l.a l.s) refl
     where
       none : l.s ≤ l.a → awaits o ≡ false
-      none few =
-          let k = open-known h in let low = h.ordered in
-          let same : (o.next == o.acknowledged) ≡ true = same-numbers o.next o.acknowledged (k.2 ∙ ap (λ n. n % 128) (let e : l.s ≡ l.a = omega (arith, few, low) in e) ∙ sym k.1) in
-          let state = k.0 in let free = k.3 in grind (arith, state, same, free)
+      none few = grind arith
 
       go : (b : Bool) → nat_lt l.a l.s ≡ b → Awaits l
       go true e = inr (h, ltb-true l.a l.s e)

@@ -1,12 +1,12 @@
 -- At an end of a call T203 alone is due, if what T200 awaits comes in time.
-use Rattle.laws_time.proofs.Vocabulary.{AwaitingEstablishment, Config, Expiry, IsInRange, Lengths, None, Option, Service, Some, TimedEndpoint, Timer, arith, due, inl, inr, is_timer_of, moment_of, refl, sym, true, true≢false, ℕ, ◌<◌, ◌∙◌, ◌≡◌, ◌≤◌}
+use Rattle.laws_time.proofs.Vocabulary.{AwaitingEstablishment, Config, Expiry, IsInRange, Lengths, None, Option, Service, Some, TimedEndpoint, Timer, arith, due, inl, inr, is_timer_of, moment_of, refl, true, ℕ, ◌<◌, ◌≡◌, ◌≤◌}
 use Rattle.lapd_frame.specs.declared.timers.Timer.TheVariants as timers
 use Rattle.laws_time.proofs.OfCircuit.AckedEnds.{its_link, Due, Claim, Timed}
 use Rattle.laws_time.proofs.OfCircuit.AckedOn.{Open}
-use Rattle.laws_time.proofs.OfCircuit.Acts.{own-same}
 use Rattle.laws_time.proofs.OfCircuit.Ends.{first-of}
 use Rattle.laws_time.proofs.OfCircuit.LongEnough.{due-is}
 use Rattle.laws_time.proofs.OfCircuit.Orders.{RunsOurs}
+use Rattle.laws_time.proofs.Moments.{own-timer}
 
 module _ (service : Service) (tei : ℕ) (c : Config) (ranged : IsInRange c) (ls : Lengths) (Old : ℕ → ℕ → Type 0) (now : ℕ) (a : TimedEndpoint) (h : Timed service tei c ranged ls Old now a)
     (not_old : (m : ℕ) → Open (its_link service tei c ranged ls a.at) → Old (its_link service tei c ranged ls a.at).a m → m ≤ now → ⊥)
@@ -32,14 +32,8 @@ module _ (service : Service) (tei : ℕ) (c : Config) (ranged : IsInRange c) (ls
         go (long, inl ringing, due_so) = let low = soon in not_ringing ringing (omega (arith, low, long))
         go (long, inr (open_now, less), due_so) = by-due open_now (due_so open_now)
 
-    by-timer : (timer : Timer) → x.timer ≡ timer → is_timer_of service tei timer ≡ true → x.timer ≡ timers.T203 service tei
-    by-timer (timers.T200 of by) same own = let e = own-same service tei of by own in absurd (t200-not (same ∙ (λ i. timers.T200 (e.0 i) (e.1 i))))
-    by-timer (timers.T203 of by) same own = let e = own-same service tei of by own in same ∙ (λ i. timers.T203 (e.0 i) (e.1 i))
-    by-timer timers.T201 same own = absurd (true≢false (sym own))
-    by-timer timers.T202 same own = absurd (true≢false (sym own))
-
     pub is-t203 : x.timer ≡ timers.T203 service tei
-    is-t203 = by-timer x.timer refl ours
+    is-t203 = own-timer service tei (λ timer. x.timer ≡ timer → x.timer ≡ timers.T203 service tei) (λ same. absurd (t200-not same)) (λ same. same) x.timer ours refl
 
   -- So none is, before T203 is.
   pub none-due : ((x : Expiry) → due a.clock ≡ Some x → x.timer ≡ timers.T203 service tei → now < x.moment) → due a.clock ≡ None

@@ -1,5 +1,5 @@
 -- A call on a wire: once SABME is received, the far end is asked for a frame, and UA is received, both ends are up.
-use Rattle.laws_time.proofs.Vocabulary.{All, All-head, All-tail, AwaitingEstablishment, Config, Established, Face, IsCalled, IsInRangeTerms as IsInRange, Link, LinkEndpoint, List, Parts, Past, Service, StationStands, StepAt, TeiAssigned, Terms, Wire, [], after_note, ap, arith, asks-way, at_far, at_near, awaiting, doing, end, first-way, frame_comes, frames_by, fresh_link as fresh, gives-stands}
+use Rattle.laws_time.proofs.Vocabulary.{All, All-head, All-tail, AwaitingEstablishment, Config, Established, Face, IsCalled, IsInRangeTerms as IsInRange, Link, LinkEndpoint, List, Parts, Service, StationStands, StepAt, TeiAssigned, Terms, Wire, [], after_note, ap, arith, asks-way, at_far, at_near, awaiting, doing, end, first-way, frame_comes, frames_by, fresh_link as fresh, gives-stands}
 use Rattle.laws_time.proofs.Vocabulary.{indicated, inl, inr, length, length-append, map, next, own_link, own_side, received, receives, refl, requests, sabme, sends, sends-ua, spelling, subst, suc, sym, takes, takes-sabme, terms, turned, ua, unheard, wire_doing_all as doing_all, with_link, with_ua_first, with_ua_waiting, zero, ℕ, ◌+◌, ◌∙◌, ◌∷◌, ◌≡◌, ◌≤◌, ◌⊎◌}
 use Rattle.model_link.specs.Events.{frame}
 use Rattle.laws_wire.specs.Call.{IsTalk}
@@ -14,19 +14,10 @@ use Rattle.laws_time.proofs.OfCircuit.AckedOn.{Calls, On, UpNow, called-up, up-o
 -- ---- a step with which a frame is received
 
 takes-few : (k : StepAt) (w : Wire) → near_takes k w ≤ 1
-takes-few (at_near receives) w = go w.far.way
-  where
-    go : (way : List (List ℕ)) → one_if_any way ≤ 1
-    go [] = omega arith
-    go (o ∷ os) = omega arith
-takes-few (at_near sends) w = omega arith
-takes-few (at_near (requests r)) w = omega arith
-takes-few (at_near other) w = omega arith
-takes-few (at_far act) w = omega arith
+takes-few k w = grind arith
 
 far-takes-few : (k : StepAt) (w : Wire) → far_takes k w ≤ 1
-far-takes-few (at_near act) w = omega arith
-far-takes-few (at_far act) w = takes-few (at_near act) (turned w)
+far-takes-few k w = grind (arith, takes-few)
 
 -- a step with which the far end receives
 by-receipt : (k : StepAt) (w : Wire) (P : StepAt → Type 0) → far_takes k w ≡ 1 → (1 ≤ length w.near.way → P (at_far receives)) → P k
@@ -45,8 +36,7 @@ by-near-receipt (at_near act) w P one h = by-receipt (at_far act) (turned w) (λ
 by-near-receipt (at_far act) w P one h = absurd (omega (arith, one))
 
 any : (way : List (List ℕ)) → 1 ≤ length way → one_if_any way ≡ 1
-any [] some = absurd (omega (arith, some))
-any (o ∷ os) some = refl
+any way h1z = grind arith
 
 module _ (service : Service) (tei : ℕ) (few : tei ≤ 126) (c d : Config) (face : Face c d) (back : Face d c) (rt : IsInRange (terms c service tei)) (ru : IsInRange (terms d service tei)) where
   abbrev t : Terms
@@ -54,9 +44,6 @@ module _ (service : Service) (tei : ℕ) (few : tei ≤ 126) (c d : Config) (fac
 
   abbrev u : Terms
   u = terms d service tei
-
-  abbrev second : Past
-  second = after_note (indicated service tei)
 
   abbrev Talks : StepAt → Type 0
   Talks k = IsTalk service tei k
@@ -106,7 +93,7 @@ module _ (service : Service) (tei : ℕ) (few : tei ≤ 126) (c d : Config) (fac
   confirms-ua : (w : Wire) → (weight : ℕ) → half.IsAwaited service tei (indicated service tei) c d 0 0 face back rt w weight → (own_link service tei (with_first_of w.far.way w.near)).state ≡ Established
   confirms-ua w weight h =
       let f = ua h.m.terms in
-      let way = first-way service tei d 0 second w.far (with_ua_first h.m) f h.m.way refl h.both.far in
+      let way = first-way service tei d 0 (after_note (indicated service tei)) w.far (with_ua_first h.m) f h.m.way refl h.both.far in
       let x = takes service tei 0 unheard c d face w.near (end t awaiting []) f h.both.near.stands way.1 in
       ap (λ way. (own_link service tei (with_first_of way w.near)).state) way.0
       ∙ ap (λ (l : Link). l.state) (own-stands service tei c 0 (frame_comes (spelling (own_side d) f) w.near) (with_link (received (frame f)) (end t awaiting [])) x.stands)

@@ -43,8 +43,7 @@ module _ (service : Service) (tei : ℕ) where
   own-stands k place s n h = ap (λ o. option_map_or (link_in (line_of s) service) o fresh) h.speaks.placed ∙ h.speaks.link
 
   pub first-way : (way : List (List ℕ)) (s : Endpoint) → (with_first_of way s).way ≡ s.way
-  first-way [] s = refl
-  first-way (o ∷ os) s = takes-way o s
+  first-way way s = grind (arith, takes-way)
 
   -- ---- I-frames from the near end
 
@@ -188,10 +187,7 @@ module _ (service : Service) (tei : ℕ) where
         go (inr x) = ap (λ (l : Link). l.a) (own-stands c p s' (with_more octets n) x.holds.stands) ∙ sym (ap (λ (l : Link). l.a) own-near)
 
     asked-a : (r : Request) → IsTalkOf service tei (requests r) → (own_link service tei (happens (request r) w.near)).a ≡ (own_link service tei w.near).a
-    asked-a (Data s t octets) is =
-        subst (λ s. (own_link service tei (happens (request (Data s t octets)) w.near)).a ≡ (own_link service tei w.near).a) (sym is.0)
-        (subst (λ t. (own_link service tei (happens (request (Data service t octets)) w.near)).a ≡ (own_link service tei w.near).a) (sym is.1) (asked-data octets))
-    asked-a other is = absurd is
+    asked-a r h1z = grind (arith, asked-data)
 
     -- the near end receives
     abbrev Received : List (List ℕ) → Type 0

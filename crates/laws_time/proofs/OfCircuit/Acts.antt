@@ -1,38 +1,27 @@
 -- What happens at an end of the clocked circuit, one thing at a time: layer 3 asks, and a timer falls due.
-use Rattle.laws_time.proofs.Vocabulary.{All, All-nil, AreOctets, Call, ClearBusy, Config, Data, Establish, Expiry, IsInRange, IsOfLink, IsSound, Lengths, Link, LinkEvent, LinkTimer, List, Observed, OctetEndpoint, Packet, Release, Request, Service, SetBusy, Some, Speaks, T200, T203, TimedEndpoint, Timer, aim_of_expiry, aim_of_request, and-false, and_parts, answer as ports_answer, answered, ap}
-use Rattle.laws_time.proofs.Vocabulary.{append-nil, arith, asked-way, asks, at, at_requested, at_timer, contents_given, due, eqb-true, fall_due, falls, false, fold, fresh_link as fresh, happens, has_lines, is_anew, is_of, is_own, is_same, is_time, is_timer_of, is_waiting, length, line_at, line_sound, link_in, link_of, link_runs, meant_all, octet_at, octet_orders, option_map_or, orders_in}
-use Rattle.laws_time.proofs.Vocabulary.{place_in, port-after, port_of, ports_fresh, refl, runs, same_service, subst, sym, true, true≢false, view_behind, view_of, within-ports, without_first, ℕ, ◌&&◌, ◌*◌, ◌++◌, ◌+◌, ◌<◌, ◌==◌, ◌∙◌, ◌≡◌, ◌≤◌}
+use Rattle.laws_time.proofs.Vocabulary.{All, AreOctets, Config, Expiry, IsInRange, IsOfLink, Lengths, Link, List, Observed, OctetEndpoint, Request, Service, Some, T200, T203, TimedEndpoint, Timer, [], aim_of_request, and-false, answer as ports_answer, answered, ap, append-nil, arith, asked-way, asks, at_requested, comes_to, contents_given, due, fall_due, falls, false, fold}
+use Rattle.laws_time.proofs.Vocabulary.{fresh_link as fresh, happens, is_anew, is_of, is_same, is_time, is_waiting, length, line_at, link_in, link_of, link_runs, meant_all, octet_orders, option_map_or, place_in, port-after, port_of, ports_fresh, refl, runs, subst, sym, true, true≢false, view_behind, view_of, within-ports, without_first, ℕ, ◌&&◌, ◌*◌, ◌++◌, ◌+◌, ◌==◌, ◌∙◌, ◌≡◌, ◌≤◌}
 use Rattle.lapd_frame.specs.declared.timers.Timer.TheVariants as timers
 use Rattle.model_link.specs.Events as link
 use Rattle.model_line.specs.Event as line
 use Rattle.model_line.specs.Line.{Line}
 use Rattle.model_card.specs.Card as cards
-use Rattle.model_card.specs.Machine as machine
 use Rattle.model_card.specs.Run as frame_runs
 use Rattle.model_card.specs.ports.Port as port
 use Rattle.laws_order.specs.circuit.Circuit as circuit
 use Rattle.laws_time.proofs.Before.{expired-anew}
 use Rattle.laws_time.proofs.Falls.{dropped}
-use Rattle.laws_time.proofs.Moments.{now-stays}
-use Rattle.laws_time.proofs.OctetsMean.{meant_at, orders-are}
+use Rattle.laws_time.proofs.Moments.{now-stays, own-timer}
 use Rattle.laws_time.proofs.Sending.{t200-is}
-use Rattle.laws_time.proofs.OfCircuit.Ends.{rest-of, first-of, stands-without}
+use Rattle.laws_time.proofs.OfCircuit.Ends.{rest-of, first-of, stands-without, at_time}
 use Rattle.laws_time.proofs.OfCircuit.Kinds.{is_asked}
 use Rattle.laws_time.proofs.OfCircuit.Moments.{awaits-in}
 use Rattle.laws_time.proofs.OfCircuit.Open.{IsOrdinary}
-use Rattle.laws_time.proofs.OfCircuit.Orders.{AreOurs, RunsOurs, asked-ours, expiry-ours}
-use Rattle.laws_time.proofs.OfCircuit.Standing.{Ends, Moved, ends-asked, ends-expired}
+use Rattle.laws_time.proofs.OfCircuit.Orders.{RunsOurs}
+use Rattle.laws_time.proofs.OfCircuit.Standing.{Moved, ends-asked, ends-expired, bare}
 use Rattle.laws_time.proofs.OfCircuit.Under.{EndBut, EndOk, Then, all-past, here-is, o-is, moved-on}
-use Rattle.laws_time.proofs.OfCircuit.Keeping.{fold-keeps, falls-keep}
-
-same-services : (a b : Service) → same_service a b ≡ true → b ≡ a
-same-services Call Call is = refl
-same-services Packet Packet is = refl
-same-services Call Packet is = absurd (true≢false (sym is))
-same-services Packet Call is = absurd (true≢false (sym is))
-
-pub own-same : (service : Service) (tei : ℕ) (of : Service) (by : ℕ) → is_own service tei of by ≡ true → (of ≡ service) × (by ≡ tei)
-own-same service tei of by own = let both = and_parts (same_service of service) (by == tei) own in (sym (same-services of service both.0), eqb-true by tei both.1)
+use Rattle.laws_time.proofs.OfCircuit.Keeping.{fold-keeps, falls-keep, comes-keep}
+use Rattle.laws_time.proofs.OfCircuit.Ours.{of-link, expires-ours, request-ours}
 
 -- An expiry puts no octet on the way.
 expired-way : (timer : Timer) (s : OctetEndpoint) → (circuit.happens (port.expiry timer) s).way ≡ s.way
@@ -42,20 +31,6 @@ expired-way timer s = ap (λ os. s.way ++ os) (grind arith) ∙ append-nil s.way
 module _ (c : Config) (service : Service) (tei place : ℕ) (ranged : IsInRange c) (lengths : Lengths) (rate : ℕ) where
   abbrev pub End : ℕ → ℕ → TimedEndpoint → Type 0
   End S M a = EndOk c service tei place ranged lengths rate S M a
-
-  -- An end stands for a line that speaks.
-  module _ (a : TimedEndpoint) (h : Ends c service tei place ranged a.at) where
-    pub sound-line : IsSound a.at.card.card.config (line_at a.at.line a.at.card.card)
-    sound-line =
-        line_sound a.at.card.card a.at.line (has_lines a.at.card.card h.stands.sound)
-        (subst (λ (k : Config). a.at.line < k.lines) (sym h.stands.config) h.stands.within)
-
-    pub speaks-here : Speaks a.at.card.card.config service tei place h.its (line_at a.at.line a.at.card.card)
-    speaks-here = subst (λ (k : Config). Speaks k service tei place h.its (line_at a.at.line a.at.card.card)) (sym h.stands.config) h.stands.speaks
-
-    pub orders-mean : (ev : port.Event) (what : line.Event) → meant_at (octet_at a.at.line ev) a.at.card ≡ Some what
-        → octet_orders (answered ev a.at) ≡ orders_in (machine.answer (at a.at.line what) a.at.card.card)
-    orders-mean ev what is = orders-are (octet_at a.at.line ev) a.at.card (Some what) is
 
   -- Octets stay as they are, and time does.
   pub record Goes (S M : ℕ) (a u : TimedEndpoint) : Type 0 where
@@ -90,23 +65,15 @@ module _ (c : Config) (service : Service) (tei place : ℕ) (ranged : IsInRange 
   -- Layer 3 asks.
   module _ (a : TimedEndpoint) (S M : ℕ) (h : End S M a) (soon : IsSoon a) where
     module _ (r : Request) (asked : link.Request) (aims : (l : Line) → aim_of_request r l ≡ at_requested service tei asked (place_in l tei)) (octets : AreOctets (contents_given r)) where
-      abbrev its : LinkEvent
-      its = link.requested asked false
-
       mv : Moved c service tei place ranged a.at (circuit.happens (port.request r) a.at) h.but.ends (λ e. e ≡ link.requested asked false)
       mv = ends-asked c service tei place ranged a.at h.but.ends r asked aims octets
-
-      own-asked : AreOurs service tei (octet_orders (answered (port.request r) a.at))
-      own-asked =
-          subst (AreOurs service tei) (sym (orders-mean a h.but.ends (port.request r) (line.request r) refl))
-          (asked-ours service tei c place a.at.line a.at.card.card h.but.ends.stands.config h.but.ends.its (sound-line a h.but.ends) (speaks-here a h.but.ends) r asked aims)
 
       then : Then c service tei place ranged lengths rate S M (happens (port.request r) a)
       then =
           moved-on c service tei place ranged lengths rate a (port.request r) S M M h.but (line.request r) refl (λ e. e ≡ link.requested asked false) mv
           (λ e is. subst IsOrdinary (sym (mv.by e is)) tt)
           (λ e is asks_it. absurd (true≢false (sym asks_it ∙ ap is_asked (mv.by e is))))
-          (omega arith) own-asked soon
+          (omega arith) (request-ours service tei c a.at [] place (bare c service tei place ranged h.but.ends.its) h.but.ends.stands r asked aims) soon
           (λ e is time. absurd (true≢false (sym time ∙ ap (λ e. is_time e h.but.ends.its) (mv.by e is))))
           (λ none. h.timer)
 
@@ -121,17 +88,7 @@ module _ (c : Config) (service : Service) (tei place : ℕ) (ranged : IsInRange 
       }
 
     pub asks-goes : (r : Request) → IsOfLink service tei r → Goes S M a (happens (port.request r) a)
-    asks-goes (Establish s t) is =
-        asked-goes (Establish s t) link.Establish (λ l. λ i. at_requested (is.0 i) (is.1 i) link.Establish (place_in l (is.1 i))) (All-nil (λ octet. octet < 256))
-    asks-goes (Release s t) is =
-        asked-goes (Release s t) link.Release (λ l. λ i. at_requested (is.0 i) (is.1 i) link.Release (place_in l (is.1 i))) (All-nil (λ octet. octet < 256))
-    asks-goes (SetBusy s t) is =
-        asked-goes (SetBusy s t) link.SetBusy (λ l. λ i. at_requested (is.0 i) (is.1 i) link.SetBusy (place_in l (is.1 i))) (All-nil (λ octet. octet < 256))
-    asks-goes (ClearBusy s t) is =
-        asked-goes (ClearBusy s t) link.ClearBusy (λ l. λ i. at_requested (is.0 i) (is.1 i) link.ClearBusy (place_in l (is.1 i))) (All-nil (λ octet. octet < 256))
-    asks-goes (Data s t contents) is =
-        asked-goes (Data s t contents) (link.Data contents) (λ l. λ i. at_requested (is.0 i) (is.1 i) (link.Data contents) (place_in l (is.1 i))) is.2
-    asks-goes other is = absurd is
+    asks-goes r is = let x = of-link service tei r is in asked-goes r x.0 x.1 x.2
 
   pub all-asked : (S M : ℕ) (rs : List Request) (a : TimedEndpoint) → End S M a → IsSoon a → All (IsOfLink service tei) rs → Goes S M a (fold asks a rs)
   all-asked S M rs a h soon all =
@@ -159,12 +116,6 @@ module _ (c : Config) (service : Service) (tei place : ℕ) (ranged : IsInRange 
     abbrev o : Observed
     o = (view_of c service tei a.at.line before).link
 
-    -- The orders are the link's.
-    own-expired : (timer : Timer) (its : LinkTimer) → ((l : Line) → aim_of_expiry timer l ≡ at_timer service tei its (place_in l tei)) → AreOurs service tei (octet_orders (answered (port.expiry timer) a.at))
-    own-expired timer its aims =
-        subst (AreOurs service tei) (sym (orders-mean a h.but.ends (port.expiry timer) (line.expiry timer) refl))
-        (expiry-ours service tei c place a.at.line a.at.card.card h.but.ends.stands.config h.but.ends.its (sound-line a h.but.ends) (speaks-here a h.but.ends) timer its aims)
-
     -- T200 that runs is started anew, or stops.
     link-is : link_of service tei (line_at a.at.line (frame_runs.after_all (cards.fresh c) before)) ≡ h.but.ends.its
     link-is =
@@ -185,7 +136,7 @@ module _ (c : Config) (service : Service) (tei place : ℕ) (ranged : IsInRange 
         moved-on c service tei place ranged lengths rate (gone a) (port.expiry (timers.T200 service tei)) S M M but (line.expiry (timers.T200 service tei)) refl (λ e. e ≡ its) mv
         (λ e is. subst IsOrdinary (sym (mv.by e is)) tt)
         (λ e is asks_it. absurd (true≢false (sym asks_it ∙ ap is_asked (mv.by e is))))
-        (omega arith) (own-expired (timers.T200 service tei) T200 (λ l. refl)) soon
+        (omega arith) (expires-ours service tei c a.at [] place (bare c service tei place ranged h.but.ends.its) h.but.ends.stands (timers.T200 service tei) T200 (λ l. refl)) soon
         (λ e is time. anew-then
         (t200-is c before a.at.line ranged past-all h.but.ends.ran.within service tei ∙ ap (λ (l : Link). link_runs T200 l.running) link-is
         ∙ sym (ap (λ e. is_time e h.but.ends.its) (mv.by e is)) ∙ time))
@@ -201,7 +152,7 @@ module _ (c : Config) (service : Service) (tei place : ℕ) (ranged : IsInRange 
         moved-on c service tei place ranged lengths rate (gone a) (port.expiry (timers.T203 service tei)) S M M but (line.expiry (timers.T203 service tei)) refl (λ e. e ≡ its) mv
         (λ e is. subst IsOrdinary (sym (mv.by e is)) tt)
         (λ e is asks_it. absurd (true≢false (sym asks_it ∙ ap is_asked (mv.by e is))))
-        (omega arith) (own-expired (timers.T203 service tei) T203 (λ l. refl)) soon
+        (omega arith) (expires-ours service tei c a.at [] place (bare c service tei place ranged h.but.ends.its) h.but.ends.stands (timers.T203 service tei) T203 (λ l. refl)) soon
         (λ e is time. absurd (true≢false (sym time ∙ ap (λ e. is_time e h.but.ends.its) (mv.by e is))))
         (λ none m waits at_m. h.timer m waits (sym (dropped a.at.line (timers.T200 service tei) x a.clock.running a.clock.now is other) ∙ at_m))
 
@@ -215,20 +166,24 @@ module _ (c : Config) (service : Service) (tei place : ℕ) (ranged : IsInRange 
       now = now-stays a.at.line (without_first a.clock) (octet_orders (answered (port.expiry timer) a.at));
     }
 
-    by-timer : (timer : Timer) → x.timer ≡ timer → is_timer_of service tei timer ≡ true → Goes S M a (happens (port.expiry timer) (gone a))
-    by-timer (timers.T200 of by) same ours =
-        let e = own-same service tei of by ours in
-        goes-with (timers.T200 of by) (subst (λ t. Then c service tei place ranged lengths rate S M (happens (port.expiry t) (gone a))) (λ i. timers.T200 (sym e.0 i) (sym e.1 i)) t200-then)
-    by-timer (timers.T203 of by) same ours =
-        let e = own-same service tei of by ours in
-        let here_same : x.timer ≡ timers.T203 service tei = same ∙ (λ i. timers.T203 (e.0 i) (e.1 i)) in
-        goes-with (timers.T203 of by) (subst (λ t. Then c service tei place ranged lengths rate S M (happens (port.expiry t) (gone a))) (λ i. timers.T203 (sym e.0 i) (sym e.1 i)) (t203-then here_same))
-    by-timer timers.T201 same ours = absurd (true≢false (sym ours))
-    by-timer timers.T202 same ours = absurd (true≢false (sym ours))
-
     pub fell-goes : Goes S M a (falls a x)
-    fell-goes = by-timer x.timer refl (first-of (RunsOurs service tei) a.clock.running a.clock.now x h.but.ours is)
+    fell-goes =
+        own-timer service tei (λ timer. x.timer ≡ timer → Goes S M a (happens (port.expiry timer) (gone a))) (λ same. goes-with (timers.T200 service tei) t200-then)
+        (λ same. goes-with (timers.T203 service tei) (t203-then same)) x.timer (first-of (RunsOurs service tei) a.clock.running a.clock.now x h.but.ours is) refl
 
   pub all-fall : (n S M : ℕ) (a : TimedEndpoint) → End S M a → IsSoon a → Goes S M a (fall_due n a)
   all-fall n S M a h soon =
       falls-keep (Goes S M a) (λ x u is g. goes-both S M a u (falls u x) g (fell-goes u g.S' M g.ok (soon-then S M a u g soon) x is)) n a (goes-none S M a h)
+
+  -- What each request and each expiry keeps at an end, is kept as it comes to its moment.
+  pub all-keep : (P : TimedEndpoint → Type 0) (Q : Request → Type 0) → ((r : Request) → Q r → IsOfLink service tei r)
+      → ((r : Request) (u : TimedEndpoint) (S M : ℕ) → End S M u → Goes S M u (asks u r) → Q r → P u → P (asks u r))
+      → ((x : Expiry) (u : TimedEndpoint) (S M : ℕ) → End S M u → Goes S M u (falls u x) → due u.clock ≡ Some x → P u → P (falls u x))
+      → (S M moment : ℕ) (rs : List Request) → All Q rs → (a : TimedEndpoint) → End S M (at_time moment a) → IsSoon (at_time moment a) → P (at_time moment a)
+      → Goes S M (at_time moment a) (comes_to moment rs a) × P (comes_to moment rs a)
+  all-keep P Q own ask fall S M moment rs all a h soon p =
+      let t = at_time moment a in
+      comes-keep (λ u. Goes S M t u × P u) Q
+      (λ r u is w. let g = asks-goes u w.0.S' M w.0.ok (soon-then S M t u w.0 soon) r (own r is) in (goes-both S M t u (asks u r) w.0 g, ask r u w.0.S' M w.0.ok g is w.1))
+      (λ x u is w. let g = fell-goes u w.0.S' M w.0.ok (soon-then S M t u w.0 soon) x is in (goes-both S M t u (falls u x) w.0 g, fall x u w.0.S' M w.0.ok g is w.1))
+      moment rs all a (goes-none S M t h, p)

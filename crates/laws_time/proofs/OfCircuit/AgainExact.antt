@@ -1,5 +1,5 @@
 -- After noise an end hears again what the other gave: with each octet just that.
-use Rattle.laws_time.proofs.Vocabulary.{All, All-cons, All-head, All-nil, All-tail, Bool, Item, List, None, Option, Port, Some, [], after_flag, ap, append_assoc, append_cancel_left, append_cancel_right, arith, bits, bits-append, cases_lt, flag, flat_map, flat_map-append, frame, frame_text, gained, heard_in, heard_until, heard_until-onto, heard_with, idle, inl, inr, item_octets, item_text}
+use Rattle.laws_time.proofs.Vocabulary.{All, All-cons, All-head, All-nil, All-tail, Bool, Item, List, Option, Port, Some, [], after_flag, ap, append_assoc, append_cancel_left, append_cancel_right, arith, bits, bits-append, cases_lt, flag, flat_map, flat_map-append, frame, frame_text, gained, heard_in, heard_until, heard_until-onto, heard_with, idle, inl, inr, item_octets, item_text}
 use Rattle.laws_time.proofs.Vocabulary.{left_of, length, length-append, length-bits, longest, longest_text, option_to_list, refl, replicate, reverse_aux, reverse_aux-append, reverse_aux-onto, room_for, slice_get, subst, suc, sym, zero, ℕ, ◌*◌, ◌++◌, ◌+◌, ◌<◌, ◌∙◌, ◌∷◌, ◌≡◌, ◌≤◌, ◌⊎◌}
 use Rattle.model_bits.specs.Stream as stream
 use Rattle.model_bits.proofs.RoundTripPlaces.{hears}
@@ -12,10 +12,7 @@ use Rattle.laws_time.proofs.OfCircuit.Sender.{Fine}
 -- ---- what came before a flag does not matter
 
 one-of-two : {A : Type 0} (o e : Option A) → option_to_list o ≡ option_to_list e → o ≡ e
-one-of-two None None is = refl
-one-of-two None (Some b) is = absurd (cc is)
-one-of-two (Some a) None is = absurd (cc is)
-one-of-two (Some a) (Some b) is = ap (λ x. Some x) (cc is)
+one-of-two o e h1z = grind arith
 
 module _ (n201 : ℕ) (S : List ℕ) (value : ℕ) (u part : List Bool) (stands : bits S ≡ u ++ (flag ++ part)) where
   abbrev place : List ℕ → List Bool
@@ -28,16 +25,10 @@ module _ (n201 : ℕ) (S : List ℕ) (value : ℕ) (u part : List Bool) (stands 
   at-place P = bits-append P S ∙ ap (λ b. bits P ++ b) stands ∙ sym (append_assoc (bits P) u (flag ++ part))
 
   heard-so : (P : List ℕ) → heard_in n201 (P ++ S) ≡ heard_until (room_for n201) (here P)
-  heard-so P =
-      ap (λ b. heard_until (room_for n201) (reverse_aux b [])) (at-place P)
-      ∙ ap (heard_until (room_for n201)) (reverse_aux-append (bits P ++ u) (flag ++ part) [] ∙ reverse_aux-append flag part (reverse_aux (bits P ++ u) []))
+  heard-so P = grind (arith, at-place, reverse_aux-append)
 
   heard-then : (P : List ℕ) → heard_in n201 ((P ++ S) ++ value ∷ []) ≡ heard_until (room_for n201) (here P) ++ hears (room_for n201) (here P) (bits (value ∷ []))
-  heard-then P =
-      ap (λ b. heard_until (room_for n201) (reverse_aux b [])) (bits-append (P ++ S) (value ∷ []) ∙ ap (λ b. b ++ bits (value ∷ [])) (at-place P))
-      ∙ ap (heard_until (room_for n201)) (reverse_aux-append ((bits P ++ u) ++ (flag ++ part)) (bits (value ∷ [])) []
-      ∙ ap (reverse_aux (bits (value ∷ []))) (reverse_aux-append (bits P ++ u) (flag ++ part) [] ∙ reverse_aux-append flag part (reverse_aux (bits P ++ u) [])))
-      ∙ heard_until-onto (room_for n201) (bits (value ∷ [])) (here P)
+  heard-then P = grind (arith, bits-append, at-place, reverse_aux-append, heard_until-onto)
 
   gains : (P : List ℕ) → option_to_list (gained n201 (P ++ S) value) ≡ hears (room_for n201) (here P) (bits (value ∷ []))
   gains P =
@@ -77,9 +68,6 @@ flag-here low most items x near late = record { front = x; rest = flat_map item_
 -- After one item more.
 module _ (low most : ℕ) (i : Item) (items : List Item) (x : List Bool) (few : All (λ item. length (item_text item) ≤ most) (i ∷ items)) (near : length x < low + most)
     (enough : low ≤ length x + length (flat_map item_text (i ∷ items))) where
-  abbrev t : List Bool
-  t = (its-text i).0
-
   abbrev next : List Bool
   next = x ++ (flag ++ (its-text i).0)
 
@@ -88,14 +76,14 @@ module _ (low most : ℕ) (i : Item) (items : List Item) (x : List Bool) (few : 
 
   all : x ++ (flag ++ (item_text i ++ flat_map item_text items)) ≡ (x ++ (flag ++ (its-text i).0)) ++ (flag ++ flat_map item_text items)
   all =
-      ap (λ b. x ++ (flag ++ (b ++ more))) (its-text i).1 ∙ ap (λ b. x ++ (flag ++ b)) (append_assoc t flag more)
-      ∙ sym (ap (λ b. x ++ b) (append_assoc flag t (flag ++ more))) ∙ sym (append_assoc x (flag ++ t) (flag ++ more))
+      ap (λ b. x ++ (flag ++ (b ++ more))) (its-text i).1 ∙ ap (λ b. x ++ (flag ++ b)) (append_assoc ((its-text i).0) flag more)
+      ∙ sym (ap (λ b. x ++ b) (append_assoc flag ((its-text i).0) (flag ++ more))) ∙ sym (append_assoc x (flag ++ ((its-text i).0)) (flag ++ more))
 
   flag-on : (length x < low) ⊎ (low ≤ length x) → (length next < low + most → low ≤ length next + length more → FlagIn low most next items) → FlagIn low most x (i ∷ items)
   flag-on (inr late) rest = flag-here low most (i ∷ items) x near late
   flag-on (inl less) rest =
       let one = All-head (λ item. length (item_text item) ≤ most) i items few in
-      let a = length-append x (flag ++ t) in let b = length-append flag t in let c = ap length (its-text i).1 ∙ length-append t flag in let d = length-append (item_text i) more in
+      let a = length-append x (flag ++ ((its-text i).0)) in let b = length-append flag ((its-text i).0) in let c = ap length (its-text i).1 ∙ length-append ((its-text i).0) flag in let d = length-append (item_text i) more in
       subst (FlagAfter low most) (sym all) (rest (omega (arith, a, b, c, one, less)) (omega (arith, a, b, c, d, enough)))
 
 flag-after : (low most : ℕ) (items : List Item) (x : List Bool) → All (λ item. length (item_text item) ≤ most) items → length x < low + most → low ≤ length x + length (flat_map item_text items)
@@ -128,7 +116,7 @@ all-texts m (i ∷ items) small =
 -- ---- so what is heard with an octet is what the other gave
 
 module _ (n201 m way k : ℕ) (p : Port) (value : ℕ) (more : List ℕ) (q : Port) (h : Fine n201 p) (c : Comes way k p (value ∷ more) q) (small : All (λ item. item_octets item ≤ m + 4) p.items)
-    (enough : k + (longest m + 1) ≤ length c.before + length c.as_sent) where
+    (enough : (k + (longest m + 1) ≤ length c.before + length c.as_sent) ⊎ (q.received ≡ c.before ++ c.as_sent)) where
   abbrev F : List Bool
   F = flat_map item_text (replicate way idle)
 
@@ -153,40 +141,42 @@ module _ (n201 m way k : ℕ) (p : Port) (value : ℕ) (more : List ℕ) (q : Po
   long-enough : 8 ≤ longest_text m
   long-enough = omega arith
 
-  all-long : 8 * (length c.before + length c.as_sent) + 8 ≤ 8 + length (flat_map item_text all_items)
-  all-long =
-      let a = ap length (sym came-is ∙ text-is) in let b = length-append (bits c.before) (bits c.as_sent ++ tail) in let d = length-append (bits c.as_sent) tail in
-      let e = length-append (bits (value ∷ more)) (left_of p) in let f = length-bits c.before in let g = length-bits c.as_sent in let i = length-bits (value ∷ more) in
-      let j = length-append flag (flat_map item_text all_items) in
-      omega (arith, a, b, d, e, f, g, i, j)
+  -- Since noise ended long ago,
+  module _ (old : k + (longest m + 1) ≤ length c.before + length c.as_sent) where
+    all-long : 8 * (length c.before + length c.as_sent) + 8 ≤ 8 + length (flat_map item_text all_items)
+    all-long =
+        let a = ap length (sym came-is ∙ text-is) in let b = length-append (bits c.before) (bits c.as_sent ++ tail) in let d = length-append (bits c.as_sent) tail in
+        let e = length-append (bits (value ∷ more)) (left_of p) in let f = length-bits c.before in let g = length-bits c.as_sent in let i = length-bits (value ∷ more) in
+        let j = length-append flag (flat_map item_text all_items) in
+        omega (arith, a, b, d, e, f, g, i, j)
 
-  found : FlagAfter (8 * k) (longest_text m) ([] ++ (flag ++ flat_map item_text all_items))
-  found =
-      let all = all-long in
-      flag-after (8 * k) (longest_text m) all_items [] (both-parts (longest_text m) (replicate way idle) p.items (all-flags (longest_text m) way long-enough) (all-texts m p.items small))
-      (let long = long-enough in omega (arith, long)) (omega (arith, all, enough))
+    found : FlagAfter (8 * k) (longest_text m) ([] ++ (flag ++ flat_map item_text all_items))
+    found =
+        let all = all-long in
+        flag-after (8 * k) (longest_text m) all_items [] (both-parts (longest_text m) (replicate way idle) p.items (all-flags (longest_text m) way long-enough) (all-texts m p.items small))
+        (let long = long-enough in omega (arith, long)) (omega (arith, all, old))
 
-  -- it came as it was sent
-  u : (u : List Bool) × (found.front ≡ bits c.before ++ u) × (bits c.as_sent ++ tail ≡ u ++ (flag ++ found.rest))
-  u =
-      let a = found.later in let few = c.few in let b = length-bits c.before in
-      longer-begins (bits c.before) (bits c.as_sent ++ tail) found.front (flag ++ found.rest) (sym came-is ∙ text-is ∙ found.is) (omega (arith, a, few, b))
+    u : (u : List Bool) × (found.front ≡ bits c.before ++ u) × (bits c.as_sent ++ tail ≡ u ++ (flag ++ found.rest))
+    u = grind (arith, length-bits, longer-begins, came-is, text-is)
 
-  part : (part : List Bool) × (bits c.as_sent ≡ (u.0 ++ flag) ++ part) × (found.rest ≡ part ++ tail)
-  part =
-      let a = found.soon in let b = ap length u.1 ∙ length-append (bits c.before) u.0 in let d = length-bits c.before in let e = length-bits c.as_sent in let f = length-append u.0 flag in
-      longer-begins (u.0 ++ flag) found.rest (bits c.as_sent) tail (append_assoc u.0 flag found.rest ∙ sym u.2) (omega (arith, a, b, d, e, f, enough))
+    part : (part : List Bool) × (bits c.as_sent ≡ (u.0 ++ flag) ++ part) × (found.rest ≡ part ++ tail)
+    part =
+        let a = found.soon in let b = ap length u.1 ∙ length-append (bits c.before) u.0 in let d = length-bits c.before in let e = length-bits c.as_sent in let f = length-append u.0 flag in
+        longer-begins (u.0 ++ flag) found.rest (bits c.as_sent) tail (append_assoc u.0 flag found.rest ∙ sym u.2) (omega (arith, a, b, d, e, f, old))
 
+    came-so : gained n201 q.received value ≡ gained n201 (c.before ++ c.as_sent) value
+    came-so = ap (λ os. gained n201 os value) c.received ∙ same-gained n201 c.as_sent value u.0 part.0 (part.1 ∙ append_assoc u.0 flag part.0) c.noisy c.before
+
+  -- or there was none, it came as it was sent.
   gained-as-sent : gained n201 q.received value ≡ gained n201 (c.before ++ c.as_sent) value
-  gained-as-sent = ap (λ os. gained n201 os value) c.received ∙ same-gained n201 c.as_sent value u.0 part.0 (part.1 ∙ append_assoc u.0 flag part.0) c.noisy c.before
+  gained-as-sent = elim enough [ inl long ↦ came-so long | inr same ↦ ap (λ os. gained n201 os value) same ]
 
   all-given : replicate way 0x7E ++ p.given ≡ (c.before ++ c.as_sent) ++ (value ∷ more)
   all-given = c.sent
 
   -- What is heard stood in what the other gave.
   pub heard-was : (e : stream.Event) → gained n201 q.received value ≡ Some e → (before : List ℕ) × (p.given ≡ before ++ value ∷ more) × (gained n201 before value ≡ Some e)
-  heard-was e gains =
-      gained-there n201 way p.given (c.before ++ c.as_sent) value more (left_of p) (flat_map item_text p.items) e (sym h.sound.text.text) all-given (sym gained-as-sent ∙ gains)
+  heard-was e gains = grind (arith, gained-there, all-given, gained-as-sent)
 
   -- And all that stood there is heard.
   pub heard-so-too : (before : List ℕ) → p.given ≡ before ++ value ∷ more → gained n201 q.received value ≡ gained n201 before value

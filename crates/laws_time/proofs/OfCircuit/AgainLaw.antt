@@ -1,7 +1,7 @@
 -- Whatever noise there was: each frame that is put on a line without noise is received so many beats later.
 use Rattle.laws_time.proofs.Vocabulary.{All, All-head, All-tail, AreShort, Beat, Begins, Clocked, Config, FramesComeAfterNoise, HasReceivedSince, IsClean, IsInRange, IsTalk, Line, List, OctetEndpoint, Option, Port, TimedEndpoint, [], after, all-left, all-right, ap, append-nil, arith, beat, begins, begun, drop, fold-append, frames_among, gone, length, length-append, length-replicate, longest}
 use Rattle.laws_time.proofs.Vocabulary.{port_of, refl, subst, sym, unwrap_or, ℕ, ◌++◌, ◌+◌, ◌∙◌, ◌∷◌, ◌≡◌, ◌≤◌}
-use Rattle.laws_time.proofs.OfCircuit.AgainRan.{EndAt, fine-at, Both, Beaten, beaten, both-all, both-begin, Grown, grown-both, grown-all, beats-all}
+use Rattle.laws_time.proofs.OfCircuit.AgainRan.{EndAt, fine-at, Both, Beaten, beaten, both-all, both-begin, Grown, grown-both, grown-all, beats-then}
 use Rattle.laws_time.proofs.OfCircuit.AgainText.{all-whole, heard-since}
 use Rattle.laws_time.proofs.OfCircuit.AnsweredBeats.{comes-pulled, comes-heard}
 use Rattle.laws_time.proofs.OfCircuit.AnsweredPlace.{Comes, all_sent}
@@ -9,10 +9,7 @@ use Rattle.laws_time.proofs.OfCircuit.InBeatsShort.{all-small, left-few}
 
 -- What was sent and what was received have one length.
 sent-long : (way n : ℕ) (p : Port) → length p.given ≡ n → length (all_sent way p) ≡ way + n
-sent-long way n p given = let a = length-append (replicate_flags way) p.given in let b = length-replicate {A = ℕ} way 0x7E in omega (arith, a, b, given)
-  where
-    replicate_flags : ℕ → List ℕ
-    replicate_flags way = Rattle.std.specs.Prelude.replicate way 0x7E
+sent-long way n p given = grind (arith, length-append, length-replicate)
 
 module _ (c d : Config) (way n k : ℕ) (s r : OctetEndpoint) (h : EndAt c way n s) (g : EndAt d way n r) (x : Comes way k (port_of s) s.way (port_of r)) where
   pub as-many : length x.before + length x.as_sent ≡ n
@@ -120,7 +117,7 @@ frames-come-after-noise l noisy bs more b m fit talk is_clean enough =
     let at_u = since-all l fit k more (all-right (IsTalk l) bs more talk_rest) (all-right IsClean bs more clean_rest) w at_w in
     let g = grown-all l fit bs (all-left (IsTalk l) bs more talk_rest) v one.both in
     let f = grown-all l fit more (all-right (IsTalk l) bs more talk_rest) w at_w.both in
-    let e = beats-all l fit more w in
+    let e = beats-then l.rate more w in
     let same : v ≡ begun l noisy b = sym (fold-append (beat l.rate) (begins l) noisy (b ∷ [])) in
     let long : l.way + (w.beats + longest m) ≤ u.beats = omega (arith, e, enough) in
     let x = length bs in

@@ -1,5 +1,6 @@
 -- Beats with any noise: each end goes on as a card on its line, and what is in transit from it is the end of what it gave.
 use Rattle.laws_time.proofs.Vocabulary.{All, All-head, All-nil, All-tail, AreOctets, AsksOctets, Assign, Beat, Begins, Carries, Clocked, Config, IsInRange, IsOfLink, IsTalk, Item, Lengths, Line, List, None, OctetEndpoint, Option, Port, Ran, Request, Service, Some, TimedEndpoint, [], after, answer, ap, append-nil, append_assoc, arith, asked-way, beat, begins, comes_to, drop, endpoint, flags}
+use Rattle.laws_time.proofs.Vocabulary.{with_first_of}
 use Rattle.laws_time.proofs.Vocabulary.{frames_among, given_in, goes-on, gone, happens, is_due, item_of, length, length-append, meant, octet_at, octet_endpoint, on-line, port-after, port_of, refl, replicate, said, sound-port, subst, suc, sym, unwrap_or, with_item, with_octet, within-ports, ℕ, ◌++◌, ◌+◌, ◌/◌, ◌<◌, ◌∙◌, ◌∷◌, ◌≡◌}
 use Rattle.model_line.specs.Event as line
 use Rattle.model_card.specs.ports.Port as port
@@ -94,22 +95,43 @@ pull-items c ranged s ran =
     let o = said (octet_at s.line port.pull) s.card in
     let x = item-with o (port_of s) in (x.0, ap (λ (p : Port). p.items) (port-after s port.pull (within-ports c ranged s ran)) ∙ x.1)
 
+-- What a pull makes of a port, and an octet that comes, if any does.
+pub beaten-end : (c : Config) (ranged : IsInRange c) (p : Port) (s : OctetEndpoint) → Ran c s → port_of s ≡ p → (way : List ℕ) (q : Port) → q ≡ port_of (with_first_of way (circuit.happens port.pull s)) → Grown 1 p q
+beaten-end c ranged p s ran same way q is =
+    let x = circuit.happens port.pull s in
+    let g = pull-sends s s refl refl (within-ports c ranged s ran) in
+    let i = pull-items c ranged s ran in
+    let h = hear-port way x (goes-on c s port.pull tt ran) in
+    record {
+      new = i.0;
+      items = ap (λ (p : Port). p.items) (is ∙ h.1) ∙ i.1 ∙ ap (λ (p : Port). p.items ++ i.0) same;
+      more = g.value ∷ [];
+      given = ap (λ (p : Port). p.given) (is ∙ h.1) ∙ g.given ∙ ap (λ (p : Port). p.given ++ g.value ∷ []) same;
+      long = refl;
+      had = h.0;
+      received = ap (λ (p : Port). p.received) (is ∙ h.1) ∙ ap (λ r. r ++ h.0) (g.received ∙ ap (λ (p : Port). p.received) same);
+    }
+  where
+    hear-port : (way : List ℕ) (x : OctetEndpoint) → Ran c x → (had : List ℕ) × (port_of (with_first_of way x) ≡ record (port_of x) { received = (port_of x).received ++ had })
+    hear-port [] x ran = ([], λ i. record (port_of x) { received = sym (append-nil (port_of x).received) i })
+    hear-port (value ∷ more) x ran = (value ∷ [], port-after x (port.octet value) (within-ports c ranged x ran))
+
+pub late-port : (way : List ℕ) (y : OctetEndpoint) → port_of (with_first_of way (circuit.without_first y)) ≡ port_of (with_first_of way y)
+late-port way y = grind arith
+
 -- What a beat makes of an end: before it, after what is asked and falls due, after the pull, and after the octet that comes.
 module _ (c : Config) (ranged : IsInRange c) (service : Service) (tei way n : ℕ) (s a u other : TimedEndpoint) (noise : Option ℕ) (h : EndAt c way n s.at) (q : Silent service tei c ranged s.at a.at)
     (comes : Came (happens port.pull a) u other noise) where
-  abbrev v : TimedEndpoint
-  v = happens port.pull a
-
   abbrev got : ℕ
   got = unwrap_or noise comes.value
 
   pub its-sent : Sent s.at (circuit.happens port.pull a.at)
   its-sent = pull-sends s.at a.at q.port q.way (within-ports c ranged a.at q.ran)
 
-  its-octets : All AreOctets (frames_among (port_of v.at).items)
+  its-octets : All AreOctets (frames_among (port_of (happens port.pull a).at).items)
   its-octets = octets-pulled c ranged a.at q.ran (subst (λ (p : Port). All AreOctets (frames_among p.items)) (sym q.port) h.octets)
 
-  pub its-fine : Fine c.n201 (port_of v.at)
+  pub its-fine : Fine c.n201 (port_of (happens port.pull a).at)
   its-fine =
       let ran = goes-on c a.at port.pull tt q.ran in
       record { sound = sound-port c ranged (circuit.happens port.pull a.at) ran; on = on-line c ranged (circuit.happens port.pull a.at) ran; octets = its-octets }
@@ -117,22 +139,22 @@ module _ (c : Config) (ranged : IsInRange c) (service : Service) (tei way n : �
   first : (value : ℕ) × (more : List ℕ) × (s.at.way ++ its-sent.value ∷ [] ≡ value ∷ more)
   first = first-of s.at.way its-sent.value
 
-  way-is : v.at.way ≡ first.0 ∷ first.1
+  way-is : (happens port.pull a).at.way ≡ first.0 ∷ first.1
   way-is = its-sent.way ∙ first.2
 
   pub end-then : EndAt c way (n + 1) u.at
   end-then =
-      let y = circuit.happens (port.octet got) v.at in
+      let y = circuit.happens (port.octet got) (happens port.pull a).at in
       let x = its-sent in
       record {
-        ran = subst (λ (u : TimedEndpoint). Ran c u.at) (sym comes.is) (ran-way c y (drop 1 y.way) (goes-on c v.at (port.octet got) tt (goes-on c a.at port.pull tt q.ran)));
+        ran = subst (λ (u : TimedEndpoint). Ran c u.at) (sym comes.is) (ran-way c y (drop 1 y.way) (goes-on c (happens port.pull a).at (port.octet got) tt (goes-on c a.at port.pull tt q.ran)));
         octets = subst (λ (p : Port). All AreOctets (frames_among p.items)) (sym comes.port) its-octets;
         given = ap (λ (p : Port). length p.given) comes.port ∙ ap length x.given ∙ length-append (port_of s.at).given (x.value ∷ []) ∙ ap (λ k. k + 1) h.given;
-        received = ap (λ (p : Port). length p.received) comes.port ∙ length-append (port_of v.at).received (got ∷ []) ∙ ap (λ (r : List ℕ). length r + 1) x.received ∙ ap (λ k. k + 1) h.received;
+        received = ap (λ (p : Port). length p.received) comes.port ∙ length-append (port_of (happens port.pull a).at).received (got ∷ []) ∙ ap (λ (r : List ℕ). length r + 1) x.received ∙ ap (λ k. k + 1) h.received;
         long =
             let all = ap length (comes.way ∙ ap (drop 1) way-is) in let whole = ap length first.2 in let more = length-append s.at.way (x.value ∷ []) in let long = h.long in
             omega (arith, all, whole, more, long);
-        behind = behind-then way s v u other noise x comes first.0 first.1 way-is h.behind;
+        behind = behind-then way s (happens port.pull a) u other noise x comes first.0 first.1 way-is h.behind;
       }
 
   pub grown-then : Grown 1 (port_of s.at) (port_of u.at)
@@ -150,6 +172,10 @@ module _ (c : Config) (ranged : IsInRange c) (service : Service) (tei way n : �
       }
 
 -- ---- both ends
+
+pub beats-then : (rate : ℕ) (bs : List Beat) (w : Clocked) → (after rate bs w).beats ≡ w.beats + length bs
+beats-then rate [] w = omega arith
+beats-then rate (b ∷ bs) w = let rest = beats-then rate bs (beat rate w b) in omega (arith, rest)
 
 module _ (l : Line) (fit : Begins l) where
   pub record Both (w : Clocked) : Type 0 where
@@ -218,10 +244,6 @@ module _ (l : Line) (fit : Begins l) where
         near = subst (λ k. Grown k (port_of w.near.at) (port_of u.near.at)) more (grown-both 1 n (port_of w.near.at) (port_of v.near.at) (port_of u.near.at) one.near_grown rest.near);
         far = subst (λ k. Grown k (port_of w.far.at) (port_of u.far.at)) more (grown-both 1 n (port_of w.far.at) (port_of v.far.at) (port_of u.far.at) one.far_grown rest.far);
       }
-
-  pub beats-all : (bs : List Beat) (w : Clocked) → (after l.rate bs w).beats ≡ w.beats + length bs
-  beats-all [] w = omega arith
-  beats-all (b ∷ bs) w = let rest = beats-all bs (beat l.rate w b) in omega (arith, rest)
 
   -- As it begins.
   begins-at : (c : Config) (ranged : IsInRange c) (number : ℕ) (within : number < c.lines) (lengths : Lengths) (in_range : Rattle.lapd_clock.specs.Timer.AreInRange lengths)

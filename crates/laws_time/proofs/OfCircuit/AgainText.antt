@@ -1,6 +1,6 @@
 -- After a flag that came as it was sent each frame is heard, whatever came before: of items that were put on a line since, all.
-use Rattle.laws_time.proofs.Vocabulary.{All, All-head, All-tail, AreHeardWhole, AreOctets, Bool, Item, List, Port, [], after_flag, ap, append-nil, append_assoc, arith, bits, bits-append, drop, exact, flag, flat_map, flat_map-append, frame, framed, frames_among, frames_among-append, frames_of, heard_in, heard_until, heard_until-onto, heard_whole, hears-append, hears_items, idle, item_text}
-use Rattle.laws_time.proofs.Vocabulary.{left_of, length, length-append, length-bits, line_text, longest, longest_text, map, refl, replicate, reverse_aux, reverse_aux-append, room_for, sent, subst, sym, ℕ, ◌*◌, ◌++◌, ◌+◌, ◌∙◌, ◌∷◌, ◌≡◌, ◌≤◌}
+use Rattle.laws_time.proofs.Vocabulary.{All, All-head, All-tail, AreHeardWhole, AreOctets, Bool, Item, List, Port, [], after_flag, ap, append-nil, append_assoc, arith, bits, bits-append, drop, exact, flag, flat_map, flat_map-append, frame, framed, frames_among, frames_among-append, frames_of, heard_in, heard_until, heard_until-onto, heard_whole, hears-append, hears_items, idle, item_text, left_of}
+use Rattle.laws_time.proofs.Vocabulary.{length, length-append, length-bits, line_text, longest, longest_text, map, refl, replicate, reverse_aux, reverse_aux-append, room_for, sent, subst, sym, ℕ, ◌*◌, ◌++◌, ◌+◌, ◌∙◌, ◌∷◌, ◌≡◌, ◌≤◌}
 use Rattle.model_bits.specs.Stream as stream
 use Rattle.model_bits.proofs.RoundTripPlaces.{hears}
 use Rattle.laws_time.proofs.OfCircuit.AnsweredBits.{longer-begins}
@@ -24,7 +24,7 @@ whole-right n201 [] ys all = all
 whole-right n201 (idle ∷ xs) ys all = whole-right n201 xs ys all
 whole-right n201 (frame o ∷ xs) ys all = whole-right n201 xs ys all.1
 
-whole-left : (n201 : ℕ) (xs ys : List Item) → AreHeardWhole n201 (xs ++ ys) → AreHeardWhole n201 xs
+pub whole-left : (n201 : ℕ) (xs ys : List Item) → AreHeardWhole n201 (xs ++ ys) → AreHeardWhole n201 xs
 whole-left n201 [] ys all = tt
 whole-left n201 (idle ∷ xs) ys all = whole-left n201 xs ys all
 whole-left n201 (frame o ∷ xs) ys all = (all.0, whole-left n201 xs ys all.1)
@@ -33,6 +33,9 @@ as-framed : (items : List Item) → frames_of items ≡ framed (frames_among ite
 as-framed [] = refl
 as-framed (idle ∷ items) = as-framed items
 as-framed (frame o ∷ items) = ap (λ es. stream.frame o ∷ es) (as-framed items)
+
+pub items-heard : (n201 : ℕ) (past : List Bool) (items : List Item) → AreHeardWhole n201 items → hears (room_for n201) (after_flag past) (flat_map item_text items) ≡ framed (frames_among items)
+items-heard n201 past items whole = ap (hears (room_for n201) (after_flag past)) (sym (append-nil (flat_map item_text items))) ∙ hears_items n201 past items 0 (omega arith) whole ∙ as-framed items
 
 drop-front : (xs ys : List (List ℕ)) → drop (length xs) (xs ++ ys) ≡ ys
 drop-front [] ys = refl
@@ -107,38 +110,31 @@ module _ (n201 way k m : ℕ) (v w u : Port) (transit received : List ℕ) (q : 
   abbrev past : List Bool
   past = reverse_aux (bits c.noisy ++ x.0) []
 
-  abbrev Y : List Bool
-  Y = N ++ part.0
-
-  came : bits q.received ≡ (bits c.noisy ++ x.0) ++ (flag ++ Y)
+  came : bits q.received ≡ (bits c.noisy ++ x.0) ++ (flag ++ (N ++ part.0))
   came =
       ap bits c.received ∙ bits-append c.noisy c.as_sent ∙ ap (λ b. bits c.noisy ++ b) (part.1 ∙ append_assoc x.0 (flag ++ N) part.0)
       ∙ sym (append_assoc (bits c.noisy) x.0 ((flag ++ N) ++ part.0)) ∙ ap (λ b. (bits c.noisy ++ x.0) ++ b) (append_assoc flag N part.0)
 
-  heard-all : heard_in n201 q.received ≡ heard_until (room_for n201) (after_flag past) ++ hears (room_for n201) (after_flag past) Y
+  heard-all : heard_in n201 q.received ≡ heard_until (room_for n201) (after_flag past) ++ hears (room_for n201) (after_flag past) (N ++ part.0)
   heard-all =
       ap (λ b. heard_until (room_for n201) (reverse_aux b [])) came
-      ∙ ap (heard_until (room_for n201)) (reverse_aux-append (bits c.noisy ++ x.0) (flag ++ Y) [] ∙ reverse_aux-append flag Y past)
-      ∙ heard_until-onto (room_for n201) Y (after_flag past)
+      ∙ ap (heard_until (room_for n201)) (reverse_aux-append (bits c.noisy ++ x.0) (flag ++ (N ++ part.0)) [] ∙ reverse_aux-append flag (N ++ part.0) past)
+      ∙ heard_until-onto (room_for n201) (N ++ part.0) (after_flag past)
 
   its : AreHeardWhole n201 new
   its = whole-right n201 v.items new (subst (AreHeardWhole n201) items (whole-left n201 w.items later (subst (AreHeardWhole n201) items_u whole)))
 
-  heard-new : hears (room_for n201) (after_flag past) N ≡ framed (frames_among new)
-  heard-new = ap (hears (room_for n201) (after_flag past)) (sym (append-nil N)) ∙ hears_items n201 past new 0 (omega arith) its ∙ as-framed new
-
   -- What had been received before goes before the flag.
-  front : (front : List Bool) × (bits c.noisy ++ (x.0 ++ flag) ≡ bits received ++ front) × (bits more ≡ front ++ Y)
+  front : (front : List Bool) × (bits c.noisy ++ (x.0 ++ flag) ≡ bits received ++ front) × (bits more ≡ front ++ (N ++ part.0))
   front =
       let a = x-long in let b = v-long in let l = length-append (bits c.noisy) (x.0 ++ flag) in let f = length-append x.0 flag in
       let n = length-bits c.noisy in let r = length-bits received in
-      longer-begins (bits received) (bits more) (bits c.noisy ++ (x.0 ++ flag)) Y
-      (sym (bits-append received more) ∙ ap bits (sym goes_on) ∙ came ∙ sym (append_assoc (bits c.noisy ++ x.0) flag Y) ∙ ap (λ b. b ++ Y) (append_assoc (bits c.noisy) x.0 flag))
+      longer-begins (bits received) (bits more) (bits c.noisy ++ (x.0 ++ flag)) (N ++ part.0)
+      (sym (bits-append received more) ∙ ap bits (sym goes_on) ∙ came ∙ sym (append_assoc (bits c.noisy ++ x.0) flag (N ++ part.0)) ∙ ap (λ b. b ++ (N ++ part.0)) (append_assoc (bits c.noisy) x.0 flag))
       (omega (arith, a, b, l, f, n, r, had, noisy_is))
 
   place-is : after_flag past ≡ reverse_aux front.0 (reverse_aux (bits received) [])
-  place-is =
-      sym (reverse_aux-append (bits c.noisy ++ x.0) flag []) ∙ ap (λ b. reverse_aux b []) (append_assoc (bits c.noisy) x.0 flag ∙ front.1) ∙ reverse_aux-append (bits received) front.0 []
+  place-is = grind (arith, reverse_aux-append)
 
   heard-before : heard_until (room_for n201) (after_flag past) ≡ heard_in n201 received ++ hears (room_for n201) (reverse_aux (bits received) []) front.0
   heard-before = ap (heard_until (room_for n201)) place-is ∙ heard_until-onto (room_for n201) front.0 (reverse_aux (bits received) [])
@@ -154,7 +150,7 @@ module _ (n201 way k m : ℕ) (v w u : Port) (transit received : List ℕ) (q : 
       sym (ap framed (ap (λ is. drop (length (frames_among v.items)) (frames_among is)) items ∙ put-later v.items new)) in (
         A,
         B,
-        heard-all ∙ ap (λ l. l ++ hears room (after_flag past) Y) heard-before
-            ∙ ap (λ l. (H ++ A) ++ l) (hears-append room N part.0 (after_flag past) ∙ ap (λ l. l ++ B) (heard-new ∙ put))
+        heard-all ∙ ap (λ l. l ++ hears room (after_flag past) (N ++ part.0)) heard-before
+            ∙ ap (λ l. (H ++ A) ++ l) (hears-append room N part.0 (after_flag past) ∙ ap (λ l. l ++ B) (items-heard n201 past new its ∙ put))
             ∙ append_assoc H A (framed (drop (length (frames_among v.items)) (frames_among w.items)) ++ B),
       )

@@ -1,21 +1,18 @@
 -- An enquiry is answered in time.
-use Rattle.laws_time.proofs.Vocabulary.{All, All-head, All-tail, AnEnquiryIsAnswered, AreClear, Assign, Beat, Clocked, CommandsAreAnswered, Enquires, IsClean, IsFit, IsTalk, Line, List, Option, Port, Some, WaitsIn, [], after, all-left, all-right, answered_in, ap, append-nil, arith, asked-way, beat, begins, begun, flags, fold-append, inl, inr, length, length-append, length-replicate}
-use Rattle.laws_time.proofs.Vocabulary.{longest_text, nil_from_length, octet_endpoint, port_of, refl, replicate, state_at, subst, sym, ℕ, ◌++◌, ◌+◌, ◌/◌, ◌<◌, ◌∙◌, ◌∷◌, ◌≡◌, ◌≤◌, ◌⊎◌}
+use Rattle.laws_time.proofs.Vocabulary.{All, All-head, All-tail, AnEnquiryIsAnswered, AreClear, Beat, Clocked, CommandsAreAnswered, Enquires, IsClean, IsFit, IsTalk, Line, List, Option, Some, WaitsIn, [], after, all-left, all-right, answered_in, ap, arith, beat, begins, begun, fold-append, inl, inr, length, longest_text, port_of, refl, state_at, subst, sym, ℕ, ◌++◌, ◌+◌, ◌/◌, ◌<◌, ◌∙◌, ◌∷◌}
+use Rattle.laws_time.proofs.Vocabulary.{◌≡◌, ◌≤◌, ◌⊎◌}
 use Rattle.laws_time.proofs.OfCircuit.AnsweredBeat.{from-here}
-use Rattle.laws_time.proofs.OfCircuit.AnsweredBeats.{Behind, BothBehind, near, far, behind-all}
 use Rattle.laws_time.proofs.OfCircuit.AnsweredDue.{due-soon}
 use Rattle.laws_time.proofs.OfCircuit.AnsweredEnds.{lost, text-low}
-use Rattle.laws_time.proofs.OfCircuit.AnsweredPlace.{Comes}
 use Rattle.laws_time.proofs.OfCircuit.AnsweredRows.{Exchange, enquiry, enquiry-soon, establishment, release}
 use Rattle.laws_time.proofs.OfCircuit.AnsweredRun.{Ready, Stage, asked_by, answered_by, ready-then, near-lost, far-lost, stage-then, stage-first}
 use Rattle.laws_time.proofs.OfCircuit.InTime.{pair-begins}
 use Rattle.laws_time.proofs.OfCircuit.Open.{ring}
 use Rattle.laws_time.specs.circuit.LongEnough.{is_of}
-use Rattle.laws_time.proofs.OfCircuit.LongEnough.{clear-parts}
-
-pub beats-then : (rate : ℕ) (bs : List Beat) (w : Clocked) → (after rate bs w).beats ≡ w.beats + length bs
-beats-then rate [] w = omega arith
-beats-then rate (b ∷ bs) w = let rest = beats-then rate bs (beat rate w b) in omega (arith, rest)
+use Rattle.laws_time.proofs.OfCircuit.LongEnough.{clear-parts, Pair, all-pairs, pair-then}
+use Rattle.laws_time.proofs.OfCircuit.Turned.{as_begins}
+use Rattle.laws_time.proofs.OfCircuit.AgainRan.{beats-then, Both, both-all, both-begin, beaten}
+use Rattle.laws_time.proofs.OfCircuit.AgainLaw.{since-first, since-one}
 
 -- After each beat an end waits, and, if it enquires, the other end is up.
 unfoldable pub Waits : Line → ℕ → List Beat → Clocked → Type 0
@@ -24,35 +21,12 @@ Waits l n (b ∷ bs) w =
     let u = beat l.rate w b in (state_at l u.near ≡ Some n) × (n ≡ 8 → (state_at l u.far ≡ Some 7) ⊎ (state_at l u.far ≡ Some 8)) × Waits l n bs u
 
 module _ (l : Line) (fit : IsFit l) where
-  -- As it begins, flags are in transit.
-  all-behind : (way : ℕ) (p : Port) (transit : List ℕ) → length p.given ≡ 0 → transit ≡ flags way → Behind way p transit
-  all-behind way p transit none is = record { before = []; sent = ap (λ g. replicate way 0x7E ++ g) (nil_from_length p.given none) ∙ append-nil (replicate way 0x7E) ∙ sym is }
-
-  pub behind-begins : BothBehind l fit (begins l)
-  behind-begins =
-      let pair = pair-begins l fit in
-      record {
-        pair = pair;
-        near_behind = all-behind l.way (port_of (begins l).near.at) (begins l).near.at.way pair.near_counts.given (asked-way (Assign l.tei) (record (octet_endpoint l.near l.near_line) { way = flags l.way }));
-        far_behind = all-behind l.way (port_of (begins l).far.at) (begins l).far.at.way pair.far_counts.given (asked-way (Assign l.tei) (record (octet_endpoint l.far l.far_line) { way = flags l.way }));
-      }
-
-  from-behind : (n : ℕ) (p q : Port) (transit : List ℕ) → length p.given ≡ n → length transit ≡ l.way → Behind l.way p transit → Comes l.way n p transit q
-  from-behind n p q transit given long h = record {
-    noisy = q.received;
-    as_sent = [];
-    before = h.before;
-    received = sym (append-nil q.received);
-    sent = h.sent ∙ ap (λ os. os ++ transit) (sym (append-nil h.before));
-    few = let all = ap length h.sent ∙ length-append h.before transit in let sent = length-append (replicate l.way 0x7E) p.given in let flags = length-replicate {A = ℕ} l.way 0x7E in omega (arith, all, sent, flags, given, long);
-  }
-
   module _ (n : ℕ) (x : Exchange n) (start clean base other_base : ℕ) (soon_clean : clean + 1 ≤ start) where
     abbrev ReadyAt : Clocked → Type 0
-    ReadyAt w = Ready l fit n x start clean base other_base w
+    ReadyAt w = Ready l fit clean base other_base w
 
     abbrev StageAt : Clocked → Type 0
-    StageAt w = Stage l fit n x start clean base other_base w
+    StageAt w = Stage l fit n x start w
 
     -- Beat by beat: what is lost only grows, and the enquiry or its answer is on its way.
     pub record Grows (w u : Clocked) : Type 0 where
@@ -87,41 +61,40 @@ module _ (l : Line) (fit : IsFit l) where
         (stage-then l fit n x start clean base other_base soon_clean w y b t c clear.0 clear.1 states.0 states.1 (omega (arith, rn, near_few)) (omega (arith, rf, far_few)) late was stage)
 
     -- So it is heard in time.
-    pub soon-over : (w : Clocked) → ReadyAt w → StageAt w → w.beats ≤ answered_by l fit n x start clean base other_base + l.way
+    pub soon-over : (w : Clocked) → ReadyAt w → StageAt w → w.beats ≤ answered_by l fit n x start + l.way
     soon-over w y (inl due) =
         let h = y.pair.near_ok.but.ends in
-        let text = text-low l.near l.service l.tei 0 (near l fit) w.near.at h in
+        let text = text-low l.near l.service l.tei 0 fit.call.near.0 w.near.at h in
         let given = y.pair.near_counts.given in
-        let bound = due-soon (is_of x.asking l.near) start (asked_by l fit n x start clean base other_base) l.way w.beats (port_of w.near.at) (ring l.near l.service l.tei 0 (near l fit) h.its) (omega (arith, text, given))
-        (from-here l.near l.service l.tei (near l fit) x.asking start (asked_by l fit n x start clean base other_base) l.way w.beats w.near.at h due) in
+        let bound = due-soon (is_of x.asking l.near) start (asked_by l fit n x start) l.way w.beats (port_of w.near.at) (ring l.near l.service l.tei 0 fit.call.near.0 h.its) (omega (arith, text, given))
+        (from-here l.near l.service l.tei fit.call.near.0 x.asking start (asked_by l fit n x start) l.way w.beats w.near.at h due) in
         omega (arith, bound)
     soon-over w y (inr due) =
         let h = y.pair.far_ok.but.ends in
-        let text = text-low l.far l.service l.tei 0 (far l fit) w.far.at h in
+        let text = text-low l.far l.service l.tei 0 fit.call.far.0 w.far.at h in
         let given = y.pair.far_counts.given in
-        due-soon (is_of x.answering l.far) start (answered_by l fit n x start clean base other_base) l.way w.beats (port_of w.far.at) (ring l.far l.service l.tei 0 (far l fit) h.its) (omega (arith, text, given))
-        (from-here l.far l.service l.tei (far l fit) x.answering start (answered_by l fit n x start clean base other_base) l.way w.beats w.far.at h due)
+        due-soon (is_of x.answering l.far) start (answered_by l fit n x start) l.way w.beats (port_of w.far.at) (ring l.far l.service l.tei 0 fit.call.far.0 h.its) (omega (arith, text, given))
+        (from-here l.far l.service l.tei fit.call.far.0 x.answering start (answered_by l fit n x start) l.way w.beats w.far.at h due)
 
   pub same-longest : longest_text l.near.n201 / 8 ≡ longest_text l.far.n201 / 8
   same-longest = ap (λ n. longest_text n / 8) fit.call.opposite.1
 
   -- From the clean beat before on.
-  module _ (n : ℕ) (x : Exchange n) (w0 : Clocked) (h : BothBehind l fit w0) (b : Beat) (talk_b : IsTalk l b) (clean_b : IsClean b) where
+  pub first-ready : (w0 : Clocked) → Pair l fit w0 → Both l (as_begins l fit) w0 → (b : Beat) → IsTalk l b → IsClean b → AreClear l (b ∷ []) w0
+      → Ready l fit w0.beats (lost (beat l.rate w0 b).near.at) (lost (beat l.rate w0 b).far.at) (beat l.rate w0 b)
+  unfolding AreClear
+  first-ready w0 p both b talk is_clean clear =
+      let fit' = as_begins l fit in let h = since-first l fit' w0 both in
+      record {
+        pair = pair-then l fit w0 p b talk clear.0 clear.1;
+        near_low = omega arith;
+        far_low = omega arith;
+        since = since-one l fit' w0.beats w0 b h (beaten l fit' w0 b talk both) is_clean;
+      }
+
+  module _ (n : ℕ) (x : Exchange n) (w0 : Clocked) (p : Pair l fit w0) (both : Both l (as_begins l fit) w0) (b : Beat) (talk_b : IsTalk l b) (clean_b : IsClean b) where
     abbrev w : Clocked
     w = beat l.rate w0 b
-
-    pub first-ready : AreClear l (b ∷ []) w0 → Ready l fit n x (w0.beats + 1) w0.beats (lost (beat l.rate w0 b).near.at) (lost (beat l.rate w0 b).far.at) (beat l.rate w0 b)
-    unfolding AreClear
-    first-ready clear =
-        let y : Ready l fit n x (w0.beats + 1) w0.beats (lost w0.near.at) (lost w0.far.at) w0 = record {
-          pair = h.pair;
-          near_low = omega arith;
-          far_low = omega arith;
-          near_comes = from-behind w0.beats (port_of w0.near.at) (port_of w0.far.at) w0.near.at.way h.pair.near_counts.given h.pair.near_counts.way h.near_behind;
-          far_comes = from-behind w0.beats (port_of w0.far.at) (port_of w0.near.at) w0.far.at.way h.pair.far_counts.given h.pair.far_counts.way h.far_behind;
-        } in
-        let z = ready-then l fit n x (w0.beats + 1) w0.beats (lost w0.near.at) (lost w0.far.at) (omega arith) w0 y b talk_b clean_b clear.0 clear.1 in
-        record { pair = z.pair; near_low = omega arith; far_low = omega arith; near_comes = z.near_comes; far_comes = z.far_comes }
 
     in-time : (more : List Beat) → All (IsTalk l) more → AreClear l (b ∷ more) w0 → All IsClean more → (state_at l (beat l.rate w0 b).near ≡ Some n → ⊥) → Waits l n more (beat l.rate w0 b)
         → lost (after l.rate more (beat l.rate w0 b)).near.at ≡ lost (beat l.rate w0 b).near.at → lost (after l.rate more (beat l.rate w0 b)).far.at ≡ lost (beat l.rate w0 b).far.at
@@ -132,7 +105,7 @@ module _ (l : Line) (fit : IsFit l) where
         let start = w0.beats + 1 in
         let base = lost w.near.at in
         let other_base = lost w.far.at in
-        let y = first-ready (clear.0, clear.1, tt) in
+        let y = first-ready w0 p both b talk_b clean_b (clear.0, clear.1, tt) in
         let rest_clear = clear.2 in
         let t = All-head (IsTalk l) c more talk in
         let ts = All-tail (IsTalk l) c more talk in
@@ -159,12 +132,14 @@ module _ (l : Line) (n : ℕ) (x : Exchange n) (bs : List Beat) (b : Beat) (more
   answered-in-time =
       let parts = clear-parts l bs (b ∷ more) (begins l) clear in
       let w0 = after l.rate bs (begins l) in
-      let behind = behind-all l fit bs (begins l) (all-left (IsTalk l) bs (b ∷ more) talk) parts.0 (behind-begins l fit) in
+      let first = all-left (IsTalk l) bs (b ∷ more) talk in
+      let p = all-pairs l fit bs first (begins l) parts.0 (pair-begins l fit) in
+      let both = both-all l (as_begins l fit) bs first (begins l) (both-begin l (as_begins l fit)) in
       let last = all-right (IsTalk l) bs (b ∷ more) talk in
       let same : after l.rate (bs ++ b ∷ []) (begins l) ≡ beat l.rate w0 b = fold-append (beat l.rate) (begins l) bs (b ∷ []) in
       subst (λ w. (state_at l w.near ≡ Some n → ⊥) → Waits l n more w → lost (after l.rate more w).near.at ≡ lost w.near.at → lost (after l.rate more w).far.at ≡ lost w.far.at
       → length more < answered_in l.near l.far l.way + x.late) (sym same)
-      (in-time l fit n x w0 behind b (All-head (IsTalk l) b more last) (All-head IsClean b more is_clean) more (All-tail (IsTalk l) b more last) parts.1 (All-tail IsClean b more is_clean))
+      (in-time l fit n x w0 p both b (All-head (IsTalk l) b more last) (All-head IsClean b more is_clean) more (All-tail (IsTalk l) b more last) parts.1 (All-tail IsClean b more is_clean))
 
 enquires-wait : (l : Line) (bs : List Beat) (w : Clocked) → Enquires l bs w → Waits l 8 bs w
 unfolding Enquires Waits

@@ -40,8 +40,7 @@ module _ (c : Config) (service : Service) (tei : ℕ) (ranged : IsInRange c) (le
     module _ (given : ℕ) (soon : given + half c service tei 0 ranged ≤ most) (late : low ≤ given) (s u : OctetEndpoint) (h : Ends c service tei 0 ranged s) (may : LinkEvent → Type 0)
         (mv : Moved c service tei 0 ranged s u h may) (ordinary : (e : LinkEvent) → mv.event ≡ Some e → IsOrdinary e) (none : (e : LinkEvent) → mv.event ≡ Some e → (links.told (terms c service tei) e h.its).lost ≡ 0) where
       moved-by : (v : Option LinkEvent) → mv.event ≡ v → state_number mv.ends.its.state ≡ n → state_number (option_map_or (λ e. links.after (terms c service tei) e h.its) v h.its).state ≡ n
-      moved-by v e is =
-          ap (λ (l : Link). state_number l.state) (sym (mv.link_is ∙ ap (λ v. option_map_or (λ e. links.after (terms c service tei) e h.its) v h.its) e)) ∙ is
+      moved-by v e is = grind arith
 
       pub asks-moved : Asks given (port_of s) h.its → Asks given (port_of u) mv.ends.its
       asks-moved y = (ap length mv.given ∙ y.0, λ is. go mv.event refl is)

@@ -1,15 +1,10 @@
 -- What a beat makes of the octets that were given, are in transit and were received.
-use Rattle.laws_time.proofs.Vocabulary.{All, All-head, All-tail, AreClear, Beat, Clocked, IsClearAt, IsFit, IsInRange, IsTalk, Line, List, None, OctetEndpoint, Option, Port, Some, TimedEndpoint, [], after, answer as ports_answer, ap, append_assoc, asked, beat, comes_to, drop, fresh, gone, happens, heard-way, hears, length, next_octet, octet_at, port-after, port_of, refl, replicate, said, sym}
-use Rattle.laws_time.proofs.Vocabulary.{unwrap_or, with_item, with_octet, within-ports, without_first_octet, ℕ, ◌++◌, ◌/◌, ◌<◌, ◌∙◌, ◌∷◌, ◌≡◌}
+use Rattle.laws_time.proofs.Vocabulary.{List, None, OctetEndpoint, Option, Port, Some, TimedEndpoint, [], answer as ports_answer, ap, append_assoc, drop, happens, heard-way, hears, length, length-append, next_octet, octet_at, port-after, port_of, refl, replicate, said, sym, unwrap_or, with_item, with_octet, without_first_octet, ℕ, ◌++◌, ◌+◌, ◌<◌, ◌∙◌, ◌∷◌, ◌≡◌}
 use Rattle.model_line.specs.Event as line
 use Rattle.model_card.specs.ports.Port as port
 use Rattle.laws_order.specs.circuit.Circuit as circuit
-use Rattle.laws_time.proofs.OfCircuit.Acts.{Goes}
 use Rattle.laws_time.proofs.OfCircuit.AnsweredPlace.{Comes, all_sent}
 use Rattle.laws_time.proofs.OfCircuit.Beats.{same-received}
-use Rattle.laws_time.proofs.OfCircuit.Ends.{at_time}
-use Rattle.laws_time.proofs.OfCircuit.LongEnough.{Pair, by_now, near-comes, far-comes, pair-then}
-use Rattle.laws_time.proofs.OfCircuit.Standing.{Pulled, pulls}
 
 -- An octet was given, and is the last in transit.
 pub record Sent (s u : OctetEndpoint) : Type 0 where
@@ -33,6 +28,13 @@ pull-sends s t port_is way_is within =
       way = ap (λ w. w ++ next_octet (with_item o (port_of t)) ∷ []) way_is;
       received = ap (λ (p : Port). p.received) after_it ∙ same-received o (port_of t) ∙ ap (λ (p : Port). p.received) port_is;
     }
+
+-- So it has so many octets.
+pub given-long : (s v : OctetEndpoint) (n : ℕ) → Sent s v → length (port_of s).given ≡ n → length (port_of v).given ≡ n + 1
+given-long s v n x is = ap length x.given ∙ length-append (port_of s).given (x.value ∷ []) ∙ ap (λ k. k + 1) is
+
+pub way-long : (s v : OctetEndpoint) (n : ℕ) → Sent s v → length s.way ≡ n → length v.way ≡ n + 1
+way-long s v n x is = ap length x.way ∙ length-append s.way (x.value ∷ []) ∙ ap (λ k. k + 1) is
 
 pub first-of : (xs : List ℕ) (v : ℕ) → (value : ℕ) × (more : List ℕ) × (xs ++ v ∷ [] ≡ value ∷ more)
 first-of [] v = (v, [], refl)
@@ -59,62 +61,6 @@ comes-then s other noise value more comes within =
       port = ap (λ (u : TimedEndpoint). port_of u.at) is ∙ port-after s.at (port.octet (unwrap_or noise value)) within;
       way = ap (λ (u : TimedEndpoint). u.at.way) is ∙ ap (drop 1) (heard-way (unwrap_or noise value) s.at);
     }
-
--- Both ends in a beat.
-pub record Beaten (w v u : Clocked) (b : Beat) : Type 0 where
-  pub near_sent : Sent w.near.at v.near.at
-  pub far_sent : Sent w.far.at v.far.at
-  pub near : Came v.near u.near v.far b.near_noise
-  pub far : Came v.far u.far v.near b.far_noise
-
-module _ (l : Line) (fit : IsFit l) where
-  abbrev pub near : IsInRange l.near
-  near = fit.call.near.0
-
-  abbrev pub far : IsInRange l.far
-  far = fit.call.far.0
-
-  abbrev pub PairAt : Clocked → Type 0
-  PairAt w = Pair l fit.some fit.call.near.0 fit.call.far.0 fit.call.opposite.0 fit.call.opposite.1 fit.t200 (fresh l.near l.lengths) (fresh l.far l.far_lengths) w
-
-  module _ (w : Clocked) (p : PairAt w) (b : Beat) (talk : IsTalk l b) where
-    abbrev n1 : TimedEndpoint
-    n1 = comes_to (w.beats / l.rate) b.near_asks w.near
-
-    abbrev f1 : TimedEndpoint
-    f1 = comes_to (w.beats / l.rate) b.far_asks w.far
-
-    pub near-come : Goes l.near l.service l.tei 0 near l.lengths l.rate p.S (by_now l fit.some near far fit.call.opposite.0 fit.call.opposite.1 fit.t200 (fresh l.near l.lengths) (fresh l.far l.far_lengths) p.S2) (at_time (w.beats / l.rate) w.near)
-        (comes_to (w.beats / l.rate) b.near_asks w.near)
-    near-come =
-        near-comes l fit.some near far fit.call.opposite.0 fit.call.opposite.1 fit.t200 (fresh l.near l.lengths) (fresh l.far l.far_lengths) w p b talk
-        (length (asked (w.beats / l.rate) b.near_asks w.near).clock.running)
-
-    pub far-come : Goes l.far l.service l.tei 0 far l.far_lengths l.rate p.S2 (by_now l fit.some near far fit.call.opposite.0 fit.call.opposite.1 fit.t200 (fresh l.near l.lengths) (fresh l.far l.far_lengths) p.S) (at_time (w.beats / l.rate) w.far)
-        (comes_to (w.beats / l.rate) b.far_asks w.far)
-    far-come =
-        far-comes l fit.some near far fit.call.opposite.0 fit.call.opposite.1 fit.t200 (fresh l.near l.lengths) (fresh l.far l.far_lengths) w p b talk
-        (length (asked (w.beats / l.rate) b.far_asks w.far).clock.running)
-
-    pub near-pulls : Pulled l.near l.service l.tei 0 near (comes_to (w.beats / l.rate) b.near_asks w.near).at near-come.ok.but.ends
-    near-pulls = pulls l.near l.service l.tei 0 near n1.at near-come.ok.but.ends
-
-    pub far-pulls : Pulled l.far l.service l.tei 0 far (comes_to (w.beats / l.rate) b.far_asks w.far).at far-come.ok.but.ends
-    far-pulls = pulls l.far l.service l.tei 0 far f1.at far-come.ok.but.ends
-
-    pub beaten : Beaten w (gone l.rate b w) (beat l.rate w b) b
-    beaten =
-        let v = gone l.rate b w in
-        let n = pull-sends w.near.at n1.at near-come.port near-come.way (within-ports l.near near n1.at near-come.ok.but.ends.ran) in
-        let f = pull-sends w.far.at f1.at far-come.port far-come.way (within-ports l.far far f1.at far-come.ok.but.ends.ran) in
-        let x = first-of w.near.at.way n.value in
-        let y = first-of w.far.at.way f.value in
-        record {
-          near_sent = n;
-          far_sent = f;
-          near = comes-then v.near v.far b.near_noise y.0 y.1 (f.way ∙ y.2) (within-ports l.near near v.near.at near-pulls.ends.ran);
-          far = comes-then v.far v.near b.far_noise x.0 x.1 (n.way ∙ x.2) (within-ports l.far far v.far.at far-pulls.ends.ran);
-        }
 
 -- What is in transit is the end of what was sent.
 pub record Behind (way : ℕ) (p : Port) (transit : List ℕ) : Type 0 where
@@ -164,28 +110,3 @@ module _ (way : ℕ) (s v u other : TimedEndpoint) (noise : Option ℕ) (sends :
           ∙ ap (λ os. os ++ more) (append_assoc h.before h.as_sent (value ∷ [])) ∙ ap (λ w. (h.before ++ (h.as_sent ++ value ∷ [])) ++ w) (sym way-then);
       few = h.few;
     }
-
--- So it is from the start on.
-module _ (l : Line) (fit : IsFit l) where
-  pub record BothBehind (w : Clocked) : Type 0 where
-    pub pair : PairAt l fit w
-    pub near_behind : Behind l.way (port_of w.near.at) w.near.at.way
-    pub far_behind : Behind l.way (port_of w.far.at) w.far.at.way
-
-  pub behind-beat : (w : Clocked) (b : Beat) → IsTalk l b → let v = gone l.rate b w in IsClearAt l.near.n201 b.near_noise v.near v.far → IsClearAt l.near.n201 b.far_noise v.far v.near
-      → BothBehind w → BothBehind (beat l.rate w b)
-  behind-beat w b talk near_clear far_clear h =
-      let v = gone l.rate b w in
-      let u = beat l.rate w b in
-      let x = beaten l fit w h.pair b talk in
-      record {
-        pair = pair-then l fit.some (near l fit) (far l fit) fit.call.opposite.0 fit.call.opposite.1 fit.t200 (fresh l.near l.lengths) (fresh l.far l.far_lengths) w h.pair b talk near_clear far_clear;
-        near_behind = behind-then l.way w.near v.near u.near v.far b.near_noise x.near_sent x.near x.far.value x.far.more x.far.comes h.near_behind;
-        far_behind = behind-then l.way w.far v.far u.far v.near b.far_noise x.far_sent x.far x.near.value x.near.more x.near.comes h.far_behind;
-      }
-
-  pub behind-all : (bs : List Beat) (w : Clocked) → All (IsTalk l) bs → AreClear l bs w → BothBehind w → BothBehind (after l.rate bs w)
-  unfolding AreClear
-  behind-all [] w talk clear h = h
-  behind-all (b ∷ bs) w talk clear h =
-      behind-all bs (beat l.rate w b) (All-tail (IsTalk l) b bs talk) clear.2 (behind-beat w b (All-head (IsTalk l) b bs talk) clear.0 clear.1 h)

@@ -1,5 +1,6 @@
 -- A frame that stands whole after a flag is heard with its closing flag, whatever came before.
-use Rattle.laws_time.proofs.Vocabulary.{Bool, IsHeardWhole, List, None, Option, Some, [], after_flag, ap, append-nil, append_assoc, append_cancel_left, arith, bits, bits-append, false, flag, frame, frame_text, gained, heard_in, heard_until, heard_until-onto, heard_with, hears-append, hears_items, length, length-append, option_to_list, refl, reverse_aux, reverse_aux-append, room_for, suc, sym}
+use Rattle.laws_time.proofs.Vocabulary.{front-none, Bool, IsHeardWhole, List, None, Option, Some, [], after_flag, ap, append-nil, append_assoc, append_cancel_left, arith, bits, bits-append, false, flag, frame, frame_text, gained, heard_in, heard_until, heard_until-onto, heard_with, hears-append, hears_items, length, length-append, option_to_list, refl, reverse_aux, reverse_aux-append, room_for}
+use Rattle.laws_time.proofs.Vocabulary.{suc, sym}
 use Rattle.laws_time.proofs.Vocabulary.{true, ℕ, ◌++◌, ◌<◌, ◌∙◌, ◌∷◌, ◌≡◌, ◌≢◌, ◌≤◌}
 use Rattle.model_bits.specs.Stream as stream
 use Rattle.model_bits.proofs.Quiet.{EndsNothing, quiet}
@@ -16,10 +17,6 @@ longer-begins (x ∷ a) b (y ∷ c) d is few = go (longer-begins a b c d (cc is)
   where
     go : (m : List _) × (c ≡ a ++ m) × (b ≡ m ++ d) → y ≡ x → (m : List _) × (y ∷ c ≡ x ∷ a ++ m) × (b ≡ m ++ d)
     go r same = (r.0, (λ i. same i ∷ r.1 i), r.2)
-
-none-first : {A : Type 0} (xs ys : List A) → xs ++ ys ≡ [] → xs ≡ []
-none-first [] ys is = refl
-none-first (x ∷ xs) ys is = cc is
 
 -- A flag without its last bit, after a text, ends nothing.
 abbrev flag_front : List Bool
@@ -49,12 +46,9 @@ module _ (room : ℕ) (past text : List Bool) (fair : NoSix 0 text) where
       let short = length-append text flag_front in
       let x = longer-begins part rest (text ++ flag_front) (false ∷ []) (sym is ∙ sym (append_assoc text flag_front (false ∷ []))) (omega (arith, all, long, short, some)) in
       let place = after_flag past in
-      none-first (hears room place part) (hears room (reverse_aux part place) x.0) (sym (hears-append room part x.0 place) ∙ ap (hears room place) (sym x.1) ∙ front-silent)
+      front-none (hears room place part) (hears room (reverse_aux part place) x.0) (sym (hears-append room part x.0 place) ∙ ap (hears room place) (sym x.1) ∙ front-silent)
 
 module _ (n201 : ℕ) (o : List ℕ) (whole : IsHeardWhole n201 o) where
-  abbrev room : ℕ
-  room = room_for n201
-
   its-text : (past : List Bool) → hears (room_for n201) (after_flag past) (frame_text o ++ flag) ≡ stream.frame o ∷ []
   its-text past =
       ap (hears (room_for n201) (after_flag past)) (sym (append-nil (frame_text o ++ flag)) ∙ ap (λ t. t) (sym (append-nil ((frame_text o ++ flag) ++ []))))

@@ -144,5 +144,4 @@ module _ (kind : List ℕ → Bool) (low most way : ℕ) where
 
   -- So it is heard in time.
   pub due-soon : (heard : ℕ) (p : Port) (ring : List (List ℕ)) → 8 * heard ≤ text_length p.items → Due heard p ring → heard ≤ most + way
-  due-soon heard p ring short (inl h) = let soon = h.to_come in let bound = h.by in omega (arith, soon, bound)
-  due-soon heard p ring short (inr h) = let bound = h.by in omega (arith, short, bound)
+  due-soon heard p ring h1z h2z = grind arith

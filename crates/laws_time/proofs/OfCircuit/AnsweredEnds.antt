@@ -1,7 +1,7 @@
 -- An end of the clocked circuit, one thing at a time: what is due there stays so, and an enquiry is put, and an answer.
-use Rattle.laws_time.proofs.Vocabulary.{All, All-head, All-tail, AreOctets, Bool, Config, Control, ControlFrame, Course, IsCarried, IsInRange, IsWaitingFrame, Item, LineTold, Link, LinkEvent, LinkIsSound, LinkTimer, List, None, OctetEndpoint, Option, Parts, Request, Service, Some, StationStands, Terms, Timer, [], aim_of_expiry, aim_of_request, and_parts, answered, ap, append-nil, append_assoc}
-use Rattle.laws_time.proofs.Vocabulary.{arith, as_endpoint, as_heard, at_requested, at_timer, bits, came, cond, contents_given, eqb-true, expires-said, false, few-left, gained, heard-as, heard_by, heard_side, if_meant, inl, inr, is_some, left_of, length, length-append, length-bits, length-map, link-sound, map, map-append, not, option_map, option_map_or, own_side, place_in, port_of, put, reading}
-use Rattle.laws_time.proofs.Vocabulary.{refl, room, said_by, spelling, subst, sum_by, sum_by-append, sym, take, takes-told, tells_nothing, terms, told_by, true, ℕ, ◌&&◌, ◌*◌, ◌++◌, ◌+◌, ◌==◌, ◌∙◌, ◌∷◌, ◌≡◌, ◌≤◌}
+use Rattle.laws_time.proofs.Vocabulary.{All, All-head, All-tail, AreOctets, Bool, Config, Control, ControlFrame, Course, IsCarried, IsInRange, IsWaitingFrame, Item, LineTold, Link, LinkEvent, LinkIsSound, LinkTimer, List, None, OctetEndpoint, Option, Parts, Request, Service, Some, StationStands, Timer, [], aim_of_expiry, aim_of_request, answered, ap, append-nil, append_assoc}
+use Rattle.laws_time.proofs.Vocabulary.{arith, as_endpoint, as_heard, at_requested, at_timer, bits, came, contents_given, expires-said, false, few-left, gained, heard-as, heard_side, if_meant, inl, inr, left_of, length, length-append, length-bits, length-map, link-sound, map, map-append, option_map, option_map_or, own_side, place_in, port_of, put, reading}
+use Rattle.laws_time.proofs.Vocabulary.{refl, room, said_by, spelling, subst, sum_by, sum_by-append, sym, take, takes-told, terms, told_by, ℕ, ◌*◌, ◌++◌, ◌+◌, ◌∙◌, ◌∷◌, ◌≡◌, ◌≤◌}
 use Rattle.model_bits.specs.Stream as stream
 use Rattle.model_link.specs.Events as link
 use Rattle.model_link.specs.Machine as links
@@ -26,24 +26,12 @@ pub lost-more : (e : port.Event) (s : OctetEndpoint) → lost s ≤ lost (circui
 lost-more e s = let all = sum_by-append (λ (t : LineTold). t.lost) s.told (told_by (answered e s)) in omega (arith, all)
 
 said-lost : (x : Course) → sum_by (λ (t : LineTold). t.lost) (said_by x) ≡ x.lost
-said-lost x = go (tells_nothing (heard_by x)) refl
-  where
-    zero : length x.notes == 0 && not (is_some (heard_by x).contents) && not (is_some (heard_by x).cause) && x.lost == 0 ≡ true → x.lost ≡ 0
-    zero is = eqb-true x.lost 0 (and_parts (length x.notes == 0 && not (is_some (heard_by x).contents) && not (is_some (heard_by x).cause)) (x.lost == 0) is).1
-
-    go : (b : Bool) → tells_nothing (heard_by x) ≡ b → sum_by (λ (t : LineTold). t.lost) (cond b [] (heard_by x ∷ [])) ≡ x.lost
-    go true is = sym (zero is)
-    go false is = omega arith
+said-lost x = grind arith
 
 lost-with : (s u : OctetEndpoint) (x : Course) → u.told ≡ s.told ++ said_by x → lost u ≡ lost s + x.lost
-lost-with s u x is =
-    let all = ap (sum_by (λ (t : LineTold). t.lost)) is ∙ sum_by-append (λ (t : LineTold). t.lost) s.told (said_by x) in
-    let one = said-lost x in omega (arith, all, one)
+lost-with s u x is = grind (arith, sum_by-append, said-lost)
 
 module _ (c : Config) (service : Service) (tei place : ℕ) (ranged : IsInRange c) where
-  abbrev t : Terms
-  t = terms c service tei
-
   -- The link of an end is one.
   pub its-same : (s : OctetEndpoint) (h k : Ends c service tei place ranged s) → h.its ≡ k.its
   its-same s h k = sym h.stands.speaks.link ∙ k.stands.speaks.link
@@ -131,9 +119,6 @@ module _ (c : Config) (service : Service) (tei place : ℕ) (ranged : IsInRange 
 
       -- It puts a frame of the kind, and nothing is lost.
       module _ (e : LinkEvent) (is : mv.event ≡ Some e) (puts : Puts (terms c service tei) kind e h.its) (none : (links.told (terms c service tei) e h.its).lost ≡ 0) where
-        abbrev before : List ControlFrame
-        before = h.its.waiting ++ puts.0
-
         waiting-is : mv.ends.its.waiting ≡ (h.its.waiting ++ puts.0) ++ puts.1 ∷ puts.2
         waiting-is =
             ap (λ (l : Link). l.waiting) (moved-by (Some e) is) ∙ waiting-then c service tei place ranged e h.its (ordinary e is)
@@ -144,14 +129,14 @@ module _ (c : Config) (service : Service) (tei place : ℕ) (ranged : IsInRange 
 
         pub frame-put : 8 * low ≤ text_length (port_of s).items → length (port_of s).given + half c service tei place ranged ≤ most → DueAt u mv.ends
         frame-put after_low soon =
-            let w = frame-here before puts.1 puts.2 (subst (All (IsWaitingFrame (terms c service tei))) waiting-is sound-then.frames) in
+            let w = frame-here (h.its.waiting ++ puts.0) puts.1 puts.2 (subst (All (IsWaitingFrame (terms c service tei))) waiting-is sound-then.frames) in
             let few = sound-then.ring in
-            let all = ap length waiting-is ∙ length-append before (puts.1 ∷ puts.2) in
-            let ring_long = length-map before (text c service tei) in
+            let all = ap length waiting-is ∙ length-append (h.its.waiting ++ puts.0) (puts.1 ∷ puts.2) in
+            let ring_long = length-map (h.its.waiting ++ puts.0) (text c service tei) in
             let left = few-left c ranged s h.ran in
             let text_all = text-is s h in
-            subst (Due (is_of kind c) low most way heard (port_of u)) (sym (ap (map (text c service tei)) waiting-is ∙ map-append (text c service tei) before (puts.1 ∷ puts.2)))
-            (due-put (is_of kind c) low most way heard (port_of s) (port_of u) (map (text c service tei) before) (text c service tei puts.1) (map (text c service tei) puts.2) mv.items
+            subst (Due (is_of kind c) low most way heard (port_of u)) (sym (ap (map (text c service tei)) waiting-is ∙ map-append (text c service tei) (h.its.waiting ++ puts.0) (puts.1 ∷ puts.2)))
+            (due-put (is_of kind c) low most way heard (port_of s) (port_of u) (map (text c service tei) (h.its.waiting ++ puts.0)) (text c service tei puts.1) (map (text c service tei) puts.2) mv.items
             (text-kind c service tei place ranged kind puts.1 w ∙ puts.4) after_low (omega (arith, few, all, ring_long, left, text_all, soon)))
 
     -- An octet is pulled.

@@ -1,6 +1,6 @@
 -- An octet comes to an end without noise: a frame of the other end is heard, or none; a command is answered, and an answer is heard.
-use Rattle.laws_time.proofs.Vocabulary.{Bool, Config, Control, IsClearAt, IsInRange, Link, LinkEvent, List, None, OctetEndpoint, Ok, Option, Parts, Service, Some, TimedEndpoint, [], ap, append_assoc, arith, framed, frames_among, gained, heard-beyond, heard_in, heard_side, heard_with, is_multiple_frame, length, list_any, option_map_or, option_to_list, or-none, own_side, parts_of, port_of}
-use Rattle.laws_time.proofs.Vocabulary.{reading, refl, state_number, subst, sym, terms, true, ℕ, ◌*◌, ◌++◌, ◌+◌, ◌∙◌, ◌∷◌, ◌≡◌, ◌≤◌}
+use Rattle.laws_time.proofs.Vocabulary.{Bool, Config, Control, IsClearAt, IsInRange, Link, LinkEvent, List, None, OctetEndpoint, Option, Parts, Service, Some, TimedEndpoint, [], ap, append_assoc, arith, framed, frames_among, gained, heard-beyond, heard_in, heard_side, heard_with, is_multiple_frame, length, option_map_or, option_to_list, own_side, port_of}
+use Rattle.laws_time.proofs.Vocabulary.{refl, state_number, subst, sym, terms, true, ℕ, ◌*◌, ◌++◌, ◌+◌, ◌∙◌, ◌∷◌, ◌≡◌, ◌≤◌}
 use Rattle.model_bits.specs.Stream as stream
 use Rattle.model_link.specs.Events as link
 use Rattle.model_link.specs.Machine as links
@@ -55,9 +55,6 @@ module _ (c : Config) (service : Service) (tei : ℕ) (ranged : IsInRange c) (d 
 
     -- A frame of the other end is heard.
     module _ (octets : List ℕ) (own : IsOwn d service tei 0 ranged_far octets) (is : gained n201 (port_of s).received value ≡ Some (stream.frame octets)) where
-      abbrev its : LinkEvent
-      its = link.received (link.frame own.0)
-
       mv : Moved c service tei 0 ranged s (circuit.happens (port.octet value) s) h (λ e. e ≡ link.received (link.frame own.0))
       mv = heard-frame c service tei 0 ranged s h value d octets own.0 own.1 own.2 side (size_far ∙ sym size) (here (Some (stream.frame octets)) is)
 
@@ -66,9 +63,7 @@ module _ (c : Config) (service : Service) (tei : ℕ) (ranged : IsInRange c) (d 
       event-is = heard-event c service tei 0 ranged s h value d octets own.0 own.1 own.2 side (size_far ∙ sym size) (here (Some (stream.frame octets)) is)
 
       kind-of : (kind : Bool → Control → Bool) → is_of kind d octets ≡ true → kind own.0.address.command own.0.control ≡ true
-      kind-of kind so =
-          let read_there : reading (own_side d) octets ≡ Ok own.0 = ap (reading (own_side d)) own.1 ∙ own.2.carried.read in
-          sym (ap (λ r. list_any (λ (f : Parts). kind f.address.command f.control) (parts_of r)) read_there ∙ or-none (kind own.0.address.command own.0.control)) ∙ so
+      kind-of kind so = grind arith
 
       same-state : (k : Ends c service tei 0 ranged (circuit.happens (port.octet value) s)) → k.its ≡ links.after (terms c service tei) (link.received (link.frame own.0)) h.its
       same-state k = sym k.stands.speaks.link ∙ mv.ends.stands.speaks.link ∙ mv.link_is

@@ -104,11 +104,7 @@ module _ (n201 : ℕ) (kind : List ℕ → Bool) (low most way heard clean : ℕ
   T-long = let x = length-append (frame_text d.o) flag in let y = some_text d.o in omega (arith, x, y)
 
   u : (u : List Bool) × (first ++ z.0 ≡ bits c.before ++ u) × (bits c.as_sent ++ (bits (value ∷ []) ++ tail) ≡ u ++ (flag ++ (T ++ R)))
-  u =
-      let low_is = d.after_low in let a = length-append first z.0 in let few = c.few in
-      let l1 = flags-long way in let l2 = front-long in let l3 = length-bits c.before in
-      longer-begins (bits c.before) (bits c.as_sent ++ (bits (value ∷ []) ++ tail)) (first ++ z.0) (flag ++ (T ++ R)) (sym came-is ∙ sent-is)
-      (omega (arith, low_is, a, few, l1, l2, l3, soon))
+  u = grind (arith, length-append, flags-long, front-long, length-bits, longer-begins, came-is, sent-is)
 
   u-long : 8 * way + length z.0 ≡ 8 * length c.before + length u.0
   u-long = let a = ap length u.1 in let b = length-append first z.0 in let k = length-append (bits c.before) u.0 in let l1 = flags-long way in let l3 = length-bits c.before in omega (arith, a, b, k, l1, l3)
@@ -123,9 +119,7 @@ module _ (n201 : ℕ) (kind : List ℕ → Bool) (low most way heard clean : ℕ
   part-long = let a = ap length part.1 in let l = length-append u.0 flag in let b = length-append (u.0 ++ flag) part.0 in let s = length-bits c.as_sent in omega (arith, a, l, b, s)
 
   rest : (rest : List Bool) × (T ≡ part.0 ++ rest) × (bits (value ∷ []) ++ tail ≡ rest ++ R)
-  rest =
-      let come = d.to_come in let e = end-long in let a = u-long in let b = part-long in
-      longer-begins part.0 (bits (value ∷ []) ++ tail) T R (sym part.2) (omega (arith, come, e, a, b, so_many))
+  rest = grind (arith, end-long, u-long, part-long, longer-begins)
 
   rest-long : length T ≡ length part.0 + length rest.0
   rest-long = ap length rest.1 ∙ length-append part.0 rest.0

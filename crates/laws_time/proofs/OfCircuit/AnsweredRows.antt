@@ -1,10 +1,9 @@
 -- Rows of a link: what is put as it comes to a state that awaits an answer, how that is answered, and which state the answer leaves.
-use Rattle.laws_time.proofs.Vocabulary.{AwaitingEstablishment, AwaitingRelease, Bool, Control, ControlFrame, Disc, Dm, Established, Link, LinkEvent as Event, LinkTimer, List, Parts, ReceiveNotReady, ReceiveReady, Received, Sabme, State, TeiAssigned, Terms, TimerRecovery, Ua, [], answers, answers_to, ap, arith, as_command, as_heard, as_response, by_received, by_request, command_in, commands}
-use Rattle.laws_time.proofs.Vocabulary.{cond, drop, event-follows, expired, false, inl, inr, is_faulty, is_multiple_frame, is_overlong, is_time, length, link_after as after, link_runs as runs, ne_eqb, not, offer, overlong, put, receipt_as, received, refl, requested, room, state_after, state_number, subst, suc, sym, take, to_disc, to_sabme, told, true, true≢false, zero, ℕ, ◌&&◌, ◌++◌, ◌||◌, ◌∙◌}
+use Rattle.laws_time.proofs.Vocabulary.{AwaitingEstablishment, Bool, Control, ControlFrame, Disc, Dm, Link, LinkEvent as Event, LinkTimer, List, Parts, ReceiveNotReady, ReceiveReady, Received, Sabme, State, Terms, Ua, [], answers, answers_to, ap, arith, as_command, as_heard, as_response, by_request, command_in, commands}
+use Rattle.laws_time.proofs.Vocabulary.{cond, drop, event-follows, expired, false, inl, inr, is_faulty, is_multiple_frame, is_overlong, length, link_after as after, offer, overlong, put, receipt_as, received, refl, requested, room, state_after, state_number, subst, suc, sym, take, to_disc, to_sabme, told, true, true≢false, zero, ℕ, ◌&&◌, ◌++◌, ◌∙◌}
 use Rattle.laws_time.proofs.Vocabulary.{◌∷◌, ◌≡◌, ◌≤◌, ◌⊎◌}
 use Rattle.lapd_frame.specs.declared.readings.Reading.{Reading}
 use Rattle.model_link.specs.Events.{Request, frame}
-use Rattle.model_link.specs.Link.{may_repeat}
 use Rattle.laws_link.specs.States.{by_frame, by_expiry}
 
 -- A supervisory command with P=1 enquires, and such a response with F=1 replies.
@@ -32,12 +31,10 @@ agrees command (Dm f) = f
 agrees command other = false
 
 enquires-so : (busy : Bool) (r : ℕ) → enquires true (receipt_as busy r true) ≡ true
-enquires-so true r = refl
-enquires-so false r = refl
+enquires-so busy r = grind arith
 
 replies-so : (busy : Bool) (r : ℕ) → replies false (receipt_as busy r true) ≡ true
-replies-so true r = refl
-replies-so false r = refl
+replies-so busy r = grind arith
 
 -- What is put, if nothing is lost.
 take-all : (n : ℕ) (fs : List ControlFrame) → length (drop n fs) ≡ 0 → take n fs ≡ fs
@@ -60,8 +57,7 @@ framed-6 : (r : Reading) (state : State) (command : Bool) (control : Control) �
 framed-6 r state command control is = grind arith
 
 not-five : (n : ℕ) → (n ≡ 8) ⊎ (n ≡ 6) → n ≡ 5 → ⊥
-not-five n (inl is) same = omega (arith, is, same)
-not-five n (inr is) same = omega (arith, is, same)
+not-five n h1z h2z = grind arith
 
 module _ (t : Terms) where
   pub leads : (e : Event) (l : Link) → (after t e l).state ≡ state_after t (as_heard t e) l
@@ -72,29 +68,16 @@ module _ (t : Terms) where
 
   -- A link that comes to a state in which it waits for an answer puts its command.
   put-in : (e : Event) (l : Link) (to : State) (n : ℕ) (f : ControlFrame) → state_number to ≡ n → (state_number l.state ≡ n → ⊥) → command_in to l ≡ f ∷ [] → commands e l to ≡ f ∷ []
-  put-in e l to n f is other command =
-      ap (λ b. cond (b || is_time e l) (command_in to l) []) (ap not (ne_eqb (state_number l.state) (state_number to) (λ same. other (same ∙ is)))) ∙ command
+  put-in e l to n f is other command = grind arith
 
   enquiry-in : (to : State) (l : Link) → state_number to ≡ 8 → command_in to l ≡ as_command (receipt_as l.own_busy l.r true)
-  enquiry-in TeiAssigned l is = absurd (cc is)
-  enquiry-in AwaitingEstablishment l is = absurd (cc is)
-  enquiry-in AwaitingRelease l is = absurd (cc is)
-  enquiry-in Established l is = absurd (cc is)
-  enquiry-in TimerRecovery l is = refl
+  enquiry-in to l h1z = grind arith
 
   pub sabme-in : (to : State) (l : Link) → state_number to ≡ 5 → command_in to l ≡ as_command (Sabme true)
-  sabme-in TeiAssigned l is = absurd (cc is)
-  sabme-in AwaitingEstablishment l is = refl
-  sabme-in AwaitingRelease l is = absurd (cc is)
-  sabme-in Established l is = absurd (cc is)
-  sabme-in TimerRecovery l is = absurd (cc is)
+  sabme-in to l h1z = grind arith
 
   disc-in : (to : State) (l : Link) → state_number to ≡ 6 → command_in to l ≡ as_command (Disc true)
-  disc-in TeiAssigned l is = absurd (cc is)
-  disc-in AwaitingEstablishment l is = absurd (cc is)
-  disc-in AwaitingRelease l is = refl
-  disc-in Established l is = absurd (cc is)
-  disc-in TimerRecovery l is = absurd (cc is)
+  disc-in to l h1z = grind arith
 
   abbrev pub Puts : (Bool → Control → Bool) → Event → Link → Type 0
   Puts kind e l = (xs : List ControlFrame) × (f : ControlFrame) × (fs : List ControlFrame) × (put (as_heard t e) l (after t e l).state ≡ xs ++ f ∷ fs) × (kind f.command f.control ≡ true)
@@ -110,15 +93,7 @@ module _ (t : Terms) where
   -- No frame leads to state 8, nor to state 6.
   module _ (n : ℕ) (other : n ≡ 5 → ⊥) (framed : (state : State) (command : Bool) (control : Control) → state_number (by_frame t.reading state command control) ≡ n → state_number state ≡ n) where
     received-stays : (r : Received) (l : Link) → state_number (state_after t (received r) l) ≡ n → state_number l.state ≡ n
-    received-stays r l is = go (is_multiple_frame l.state && is_faulty r l) is
-      where
-        by : (r : Received) → state_number (by_received t.reading l.state r) ≡ n → state_number l.state ≡ n
-        by (frame f) is = framed l.state f.address.command f.control is
-        by else is = is
-
-        go : (b : Bool) → state_number (cond b AwaitingEstablishment (by_received t.reading l.state r)) ≡ n → state_number l.state ≡ n
-        go true is = absurd (other (sym is))
-        go false is = by r is
+    received-stays r l is = grind arith
 
     heard-stays : (f : Parts) (l : Link) → state_number (after t (received (frame f)) l).state ≡ n → state_number l.state ≡ n
     heard-stays f l is =
@@ -127,9 +102,7 @@ module _ (t : Terms) where
   -- An enquiry that is heard in state 7 or 8 is answered.
   as-enquiry : (command : Bool) (control : Control) (info : List ℕ) (l : Link) → enquires command control ≡ true
       → (is_overlong t control info ≡ false) × (answers_to command control l ≡ cond (is_multiple_frame l.state) (as_response (receipt_as l.own_busy l.r true)) [])
-  as-enquiry true (ReceiveReady nr pf) info l is = (refl, ap (λ p. cond (is_multiple_frame l.state) (cond p (as_response (receipt_as l.own_busy l.r true)) []) []) is)
-  as-enquiry true (ReceiveNotReady nr pf) info l is = (refl, ap (λ p. cond (is_multiple_frame l.state) (cond p (as_response (receipt_as l.own_busy l.r true)) []) []) is)
-  as-enquiry command control info l is = absurd (true≢false (sym is))
+  as-enquiry command control info l h1z = grind arith
 
   answer-put : (f : Parts) (l : Link) → enquires f.address.command f.control ≡ true → is_multiple_frame l.state ≡ true → Puts replies (received (frame f)) l
   answer-put f l is up =
@@ -147,18 +120,10 @@ module _ (t : Terms) where
 
   -- SABME and DISC are answered in any state.
   as-sabme : (state : State) → agrees false (to_sabme state true) ≡ true
-  as-sabme TeiAssigned = refl
-  as-sabme AwaitingEstablishment = refl
-  as-sabme AwaitingRelease = refl
-  as-sabme Established = refl
-  as-sabme TimerRecovery = refl
+  as-sabme state = grind arith
 
   as-disc : (state : State) → agrees false (to_disc state true) ≡ true
-  as-disc TeiAssigned = refl
-  as-disc AwaitingEstablishment = refl
-  as-disc AwaitingRelease = refl
-  as-disc Established = refl
-  as-disc TimerRecovery = refl
+  as-disc state = grind arith
 
   abbrev IsAnswered : Bool → Control → List ℕ → Link → Type 0
   IsAnswered command control info l = (is_overlong t control info ≡ false) × (c : Control) × (answers_to command control l ≡ as_response c) × (agrees false c ≡ true)
@@ -187,14 +152,7 @@ module _ (t : Terms) where
   kept-up state command control is up = grind arith
 
   was-up : (f : Parts) (l : Link) → enquires f.address.command f.control ≡ true → is_multiple_frame (after t (received (frame f)) l).state ≡ true → is_multiple_frame l.state ≡ true
-  was-up f l is up =
-      let x = as-enquiry f.address.command f.control f.info l is in
-      go (is_multiple_frame l.state && is_faulty (frame f) l)
-      (ap is_multiple_frame (ap (λ b. state_after t (received (cond b overlong (frame f))) l) (sym x.0) ∙ sym (leads (received (frame f)) l)) ∙ up)
-    where
-      go : (b : Bool) → is_multiple_frame (cond b AwaitingEstablishment (by_frame t.reading l.state f.address.command f.control)) ≡ true → is_multiple_frame l.state ≡ true
-      go true up = absurd (true≢false (sym up))
-      go false up = kept-up l.state f.address.command f.control is up
+  was-up f l is up = grind arith
 
   pub up-is : (state : State) → (state_number state ≡ 7) ⊎ (state_number state ≡ 8) → is_multiple_frame state ≡ true
   up-is state is = grind arith
@@ -216,29 +174,11 @@ module _ (t : Terms) where
       go false number = moved-on l.state f.address.command f.control is number
 
   -- UA and DM with F=1 leave no link in state 6, nor, unless it was in state 8, in state 5.
-  short-agreement : (command : Bool) (control : Control) (info : List ℕ) → agrees command control ≡ true → is_overlong t control info ≡ false
-  short-agreement command control info is = grind arith
-
-  ends-6 : (state : State) (command : Bool) (control : Control) → agrees command control ≡ true → state_number (by_frame t.reading state command control) ≡ 6 → ⊥
-  ends-6 state command control is number = grind arith
-
-  ends-5 : (state : State) (command : Bool) (control : Control) → agrees command control ≡ true → is_multiple_frame state ≡ false → state_number (by_frame t.reading state command control) ≡ 5 → ⊥
-  ends-5 state command control is down number = grind arith
-
   agreement-6 : (f : Parts) (l : Link) → agrees f.address.command f.control ≡ true → state_number (after t (received (frame f)) l).state ≡ 6 → ⊥
-  agreement-6 f l is number =
-      go (is_multiple_frame l.state && is_faulty (frame f) l)
-      (ap state_number (ap (λ b. state_after t (received (cond b overlong (frame f))) l) (sym (short-agreement f.address.command f.control f.info is)) ∙ sym (leads (received (frame f)) l)) ∙ number)
-    where
-      go : (b : Bool) → state_number (cond b AwaitingEstablishment (by_frame t.reading l.state f.address.command f.control)) ≡ 6 → ⊥
-      go true number = cc number
-      go false number = ends-6 l.state f.address.command f.control is number
+  agreement-6 f l is number = grind arith
 
   agreement-5 : (f : Parts) (l : Link) → agrees f.address.command f.control ≡ true → is_multiple_frame l.state ≡ false → state_number (after t (received (frame f)) l).state ≡ 5 → ⊥
-  agreement-5 f l is down number =
-      ends-5 l.state f.address.command f.control is down
-      (ap (λ b. state_number (cond (b && is_faulty (frame f) l) AwaitingEstablishment (by_frame t.reading l.state f.address.command f.control))) (sym down)
-      ∙ ap state_number (ap (λ b. state_after t (received (cond b overlong (frame f))) l) (sym (short-agreement f.address.command f.control f.info is)) ∙ sym (leads (received (frame f)) l)) ∙ number)
+  agreement-5 f l is down number = grind arith
 
   -- What layer 3 asks and what expires leads no link to state 7 or 8, except from there.
   asked-down : (state : State) (request : Request) → is_multiple_frame state ≡ false → is_multiple_frame (by_request state request) ≡ false
@@ -248,14 +188,7 @@ module _ (t : Terms) where
   expired-down state timer again down = grind arith
 
   own-down : (e : Event) (l : Link) → IsOwnEvent e → is_multiple_frame l.state ≡ false → is_multiple_frame (after t e l).state ≡ false
-  own-down e l (inl x) down = subst (λ e. is_multiple_frame (after t e l).state ≡ false) (sym x.1) (ap is_multiple_frame (leads (requested x.0 false) l) ∙ asked-down l.state x.0 down)
-  own-down e l (inr x) down =
-      subst (λ e. is_multiple_frame (after t e l).state ≡ false) (sym x.1)
-      (ap is_multiple_frame (leads (expired x.0) l) ∙ go (runs x.0 l.running))
-    where
-      go : (b : Bool) → is_multiple_frame (cond b (by_expiry l.state x.0 (may_repeat t l)) l.state) ≡ false
-      go true = expired-down l.state x.0 (may_repeat t l) down
-      go false = down
+  own-down e l h1z h2z = grind (arith, asked-down, expired-down)
 
 -- A state in which an end waits for an answer: with its command, the answer, and what holds of the state as long as the end waits.
 pub record Exchange (n : ℕ) : Type 1 where

@@ -1,34 +1,51 @@
 -- A beat without noise, after an end came to a state in which it waits for an answer: its command is on its way, or the answer is.
-use Rattle.laws_time.proofs.Vocabulary.{Beat, Clocked, IsClean, IsClearAt, IsFit, IsTalk, Line, Link, LinkEvent, List, None, OctetEndpoint, Option, Parts, Port, Some, TimedEndpoint, TimedOctetCard, [], ap, arith, beat, cases_eq, comes_to, fresh, gained, gone, happens, heard_side, inl, inr, is_multiple_frame, length, length-append, length-replicate, option_map_or, own_side, port_of, refl}
-use Rattle.laws_time.proofs.Vocabulary.{replicate, same_Some, sides-turned, state_at, state_number, subst, sym, terms, true, unwrap_or, without_first_octet, ℕ, ◌++◌, ◌+◌, ◌/◌, ◌∙◌, ◌∷◌, ◌≡◌, ◌≤◌, ◌⊎◌}
+use Rattle.laws_time.proofs.Vocabulary.{Beat, Clocked, IsClean, IsClearAt, IsFit, IsTalk, Line, Link, LinkEvent, None, OctetEndpoint, Option, Parts, Port, Some, TimedEndpoint, ap, arith, asked, beat, cases_eq, comes_to, gained, gone, happens, heard_side, inl, inr, is_multiple_frame, length, option_map_or, own_side, port_of, refl, same_Some, sides-turned, state_at, state_number, subst, sym}
+use Rattle.laws_time.proofs.Vocabulary.{terms, true, unwrap_or, without_first_octet, ℕ, ◌+◌, ◌/◌, ◌∙◌, ◌∷◌, ◌≡◌, ◌≤◌, ◌⊎◌}
 use Rattle.model_link.specs.Events as link
 use Rattle.model_link.specs.Machine as links
 use Rattle.model_card.specs.ports.Port as port
 use Rattle.laws_order.specs.circuit.Circuit as circuit
+use Rattle.laws_time.proofs.OfCircuit.Acts.{Goes}
 use Rattle.laws_time.proofs.OfCircuit.AnsweredBeat.{DueHere, from-here, to-here, due-kept, asks-moved, asks-kept, still-kept}
-use Rattle.laws_time.proofs.OfCircuit.AnsweredBeats.{Beaten, PairAt, near-come, far-come, near-pulls, far-pulls, beaten, comes-pulled, comes-heard}
+use Rattle.laws_time.proofs.OfCircuit.AnsweredBeats.{given-long, way-long}
 use Rattle.laws_time.proofs.OfCircuit.AnsweredDue.{Due, IsNow, due-heard, due-soon}
 use Rattle.laws_time.proofs.OfCircuit.AnsweredEnds.{lost, lost-more, DueAt, due-moved, due-pull, text-low}
 use Rattle.laws_time.proofs.OfCircuit.AnsweredHeard.{Hears, plain, answer-heard, command-heard, hears-moved}
 use Rattle.laws_time.proofs.OfCircuit.AnsweredPlace.{Comes, one-among, heard-here}
 use Rattle.laws_time.proofs.OfCircuit.AnsweredRows.{Exchange, up-is, offer-stays}
 use Rattle.laws_time.proofs.OfCircuit.AnsweredWalk.{IsKept, Kept, comes-kept}
-use Rattle.laws_time.proofs.OfCircuit.LongEnough.{by_now, soon, near-low, near-high, far-low, far-high, pair-then}
+use Rattle.laws_time.proofs.OfCircuit.LongEnough.{soon, near-low, near-high, far-low, far-high, pair-then, Pair, far-comes, near-comes}
 use Rattle.laws_time.proofs.OfCircuit.Open.{ring, half}
-use Rattle.laws_time.proofs.OfCircuit.Standing.{Ends, IsOwn, Moved, fine}
+use Rattle.laws_time.proofs.OfCircuit.Standing.{Ends, IsOwn, Moved, fine, Pulled, pulls}
 use Rattle.laws_time.proofs.OfCircuit.Under.{state-here}
 use Rattle.laws_time.specs.circuit.LongEnough.{is_of}
+use Rattle.laws_time.proofs.OfCircuit.AgainRan.{Beaten, beaten}
+use Rattle.laws_time.proofs.OfCircuit.AgainLaw.{Since, gone-back, gone-there, many-of, since-one}
+use Rattle.laws_time.proofs.OfCircuit.Turned.{as_begins}
+use Rattle.laws_time.proofs.OfCircuit.Ends.{at_time}
 
--- So many octets were heard.
-count-of : (way clean : ℕ) (p q : Port) (transit : List ℕ) (h : Comes way clean p transit q) (n : ℕ) → length p.given ≡ n + 1 → length transit ≡ way + 1 → length h.before + length h.as_sent ≡ n
-count-of way clean p q transit h n given long =
-    let all = ap length h.sent ∙ length-append (h.before ++ h.as_sent) transit in
-    let front = length-append h.before h.as_sent in
-    let sent = length-append (replicate way 0x7E) p.given in
-    let flags = length-replicate {A = ℕ} way 0x7E in
-    omega (arith, all, front, sent, flags, given, long)
+-- An end as it comes to the moment of a beat, and as it is pulled.
+module _ (l : Line) (fit : IsFit l) (w : Clocked) (p : Pair l fit w) (b : Beat) (talk : IsTalk l b) where
+  pub near-come : Goes l.near l.service l.tei 0 fit.call.near.0 l.lengths l.rate p.S p.M (at_time (w.beats / l.rate) w.near) (comes_to (w.beats / l.rate) b.near_asks w.near)
+  near-come = near-comes l fit w p b talk (length (asked (w.beats / l.rate) b.near_asks w.near).clock.running)
 
-module _ (l : Line) (fit : IsFit l) (n : ℕ) (x : Exchange n) (start clean base other_base : ℕ) where
+  pub far-come : Goes l.far l.service l.tei 0 fit.call.far.0 l.far_lengths l.rate p.S2 p.M2 (at_time (w.beats / l.rate) w.far) (comes_to (w.beats / l.rate) b.far_asks w.far)
+  far-come = far-comes l fit w p b talk (length (asked (w.beats / l.rate) b.far_asks w.far).clock.running)
+
+  pub near-pulls : Pulled l.near l.service l.tei 0 fit.call.near.0 (comes_to (w.beats / l.rate) b.near_asks w.near).at near-come.ok.but.ends
+  near-pulls = pulls l.near l.service l.tei 0 fit.call.near.0 (comes_to (w.beats / l.rate) b.near_asks w.near).at near-come.ok.but.ends
+
+  pub far-pulls : Pulled l.far l.service l.tei 0 fit.call.far.0 (comes_to (w.beats / l.rate) b.far_asks w.far).at far-come.ok.but.ends
+  far-pulls = pulls l.far l.service l.tei 0 fit.call.far.0 (comes_to (w.beats / l.rate) b.far_asks w.far).at far-come.ok.but.ends
+
+-- From a beat on there is no noise, and so many frames were lost by then.
+pub record Ready (l : Line) (fit : IsFit l) (clean base other_base : ℕ) (w : Clocked) : Type 0 where
+  pub pair : Pair l fit w
+  pub near_low : base ≤ lost w.near.at
+  pub far_low : other_base ≤ lost w.far.at
+  pub since : Since l (as_begins l fit) clean w
+
+module _ (l : Line) (fit : IsFit l) (n : ℕ) (x : Exchange n) (start : ℕ) where
   -- By these octets the command is given, and the answer.
   abbrev pub asked_by : ℕ
   asked_by = start + x.late + half l.near l.service l.tei 0 fit.call.near.0
@@ -45,14 +62,7 @@ module _ (l : Line) (fit : IsFit l) (n : ℕ) (x : Exchange n) (start clean base
   abbrev pub Stage : Clocked → Type 0
   Stage w = NearDue w.beats w.near.at ⊎ FarDue w.beats w.far.at
 
-  pub record Ready (w : Clocked) : Type 0 where
-    pub pair : PairAt l fit w
-    pub near_low : base ≤ lost w.near.at
-    pub far_low : other_base ≤ lost w.far.at
-    pub near_comes : Comes l.way clean (port_of w.near.at) w.near.at.way (port_of w.far.at)
-    pub far_comes : Comes l.way clean (port_of w.far.at) w.far.at.way (port_of w.near.at)
-
-  module _ (soon_clean : clean + 1 ≤ start) (w : Clocked) (y : Ready w) (b : Beat) (talk : IsTalk l b) (is_clean : IsClean b) (near_clear : IsClearAt l.near.n201 b.near_noise (gone l.rate b w).near (gone l.rate b w).far)
+  module _ (clean base other_base : ℕ) (soon_clean : clean + 1 ≤ start) (w : Clocked) (y : Ready l fit clean base other_base w) (b : Beat) (talk : IsTalk l b) (is_clean : IsClean b) (near_clear : IsClearAt l.near.n201 b.near_noise (gone l.rate b w).near (gone l.rate b w).far)
       (far_clear : IsClearAt l.near.n201 b.far_noise (gone l.rate b w).far (gone l.rate b w).near) where
     abbrev pub v : Clocked
     v = gone l.rate b w
@@ -72,17 +82,11 @@ module _ (l : Line) (fit : IsFit l) (n : ℕ) (x : Exchange n) (start clean base
     abbrev size : l.near.n201 ≡ l.far.n201
     size = fit.call.opposite.1
 
-    abbrev a : TimedOctetCard
-    a = fresh l.near l.lengths
-
-    abbrev d : TimedOctetCard
-    d = fresh l.far l.far_lengths
-
-    abbrev pub p : PairAt l fit w
+    abbrev pub p : Pair l fit w
     p = y.pair
 
-    abbrev pub z : Beaten w (gone l.rate b w) (beat l.rate w b) b
-    z = beaten l fit w y.pair b talk
+    abbrev pub z : Beaten l (as_begins l fit) w b
+    z = beaten l (as_begins l fit) w b talk y.since.both
 
     -- the ends after their requests and expiries, after their pulls, and after the octet that comes
     abbrev pub near1 : Ends l.near l.service l.tei 0 fit.call.near.0 n1.at
@@ -122,25 +126,18 @@ module _ (l : Line) (fit : IsFit l) (n : ℕ) (x : Exchange n) (start clean base
         hears-moved l.far l.service l.tei fit.call.far.0 l.near fit.call.near.0 l.near.n201 (sym size) refl (sym (sides-turned l.near l.far opposite)) v.far v.near far2 near2
         (subst (λ o. IsClearAt l.near.n201 o v.far v.near) is_clean.1 far_clear) z.far.value z.far.more z.far.comes
 
-    abbrev far_mv : Moved l.far l.service l.tei 0 fit.call.far.0 v.far.at (circuit.happens (port.octet z.far.value) v.far.at) far2 (λ e. (f : Parts) × (e ≡ link.received (link.frame f)))
-    far_mv = far_hears.0
-
     -- what holds of the port and the link of an end, as it comes to the moment
     near-walk : (D : Port → Link → Type 0) (base : ℕ) → IsKept l.near l.service l.tei fit.call.near.0 l.lengths l.rate D → base ≤ lost w.near.at
         → (lost w.near.at ≤ base → D (port_of w.near.at) p.near_ok.but.ends.its) → Kept l.near l.service l.tei fit.call.near.0 l.lengths l.rate D base n1.at near1
     near-walk D base on low so =
-        comes-kept l.near l.service l.tei fit.call.near.0 l.lengths l.rate D base on l.way (w.beats / l.rate) w.beats p.S
-        (by_now l fit.some fit.call.near.0 fit.call.far.0 opposite size fit.t200 a d p.S2) b.near_asks w.near p.near_ok p.both.near
-        (near-low l fit.some fit.call.near.0 fit.call.far.0 opposite size fit.t200 a d w p b talk) (near-high l fit.some fit.call.near.0 fit.call.far.0 opposite size fit.t200 a d w p b talk) p.near_counts
-        (soon l fit.some fit.call.near.0 fit.call.far.0 opposite size fit.t200 a d w p b talk) talk.0 (low, so) near1
+        comes-kept l.near l.service l.tei fit.call.near.0 l.lengths l.rate D base on l.way (w.beats / l.rate) w.beats p.S p.M b.near_asks w.near p.near_ok p.both.near
+        (near-low l fit w p) (near-high l fit w p) p.near_counts (soon l fit w) talk.0 (low, so) near1
 
     far-walk : (D : Port → Link → Type 0) (base : ℕ) → IsKept l.far l.service l.tei fit.call.far.0 l.far_lengths l.rate D → base ≤ lost w.far.at
         → (lost w.far.at ≤ base → D (port_of w.far.at) p.far_ok.but.ends.its) → Kept l.far l.service l.tei fit.call.far.0 l.far_lengths l.rate D base f1.at far1
     far-walk D base on low so =
-        comes-kept l.far l.service l.tei fit.call.far.0 l.far_lengths l.rate D base on l.way (w.beats / l.rate) w.beats p.S2
-        (by_now l fit.some fit.call.near.0 fit.call.far.0 opposite size fit.t200 a d p.S) b.far_asks w.far p.far_ok p.both.far
-        (far-low l fit.some fit.call.near.0 fit.call.far.0 opposite size fit.t200 a d w p b talk) (far-high l fit.some fit.call.near.0 fit.call.far.0 opposite size fit.t200 a d w p b talk) p.far_counts
-        (soon l fit.some fit.call.near.0 fit.call.far.0 opposite size fit.t200 a d w p b talk) talk.1 (low, so) far1
+        comes-kept l.far l.service l.tei fit.call.far.0 l.far_lengths l.rate D base on l.way (w.beats / l.rate) w.beats p.S2 p.M2 b.far_asks w.far p.far_ok p.both.far
+        (far-low l fit w p) (far-high l fit w p) p.far_counts (soon l fit w) talk.1 (low, so) far1
 
     -- what is lost only grows
     pub near-lost : (lost w.near.at ≤ lost n1.at) × (lost n1.at ≤ lost v.near.at) × (lost v.near.at ≤ lost u.near.at)
@@ -159,37 +156,29 @@ module _ (l : Line) (fit : IsFit l) (n : ℕ) (x : Exchange n) (start clean base
 
     -- what is in transit after the pulls
     near_coming : Comes l.way clean (port_of v.near.at) (z.far.value ∷ z.far.more) (port_of v.far.at)
-    near_coming =
-        comes-pulled l.way w.near v.near u.near v.far b.near_noise z.near_sent z.near z.far.value z.far.more z.far.comes clean (port_of w.far.at) (port_of v.far.at) z.far_sent.received y.near_comes
+    near_coming = gone-there l (as_begins l fit) clean w b y.since z
 
     far_coming : Comes l.way clean (port_of v.far.at) (z.near.value ∷ z.near.more) (port_of v.near.at)
-    far_coming =
-        comes-pulled l.way w.far v.far u.far v.near b.far_noise z.far_sent z.far z.near.value z.near.more z.near.comes clean (port_of w.near.at) (port_of v.near.at) z.near_sent.received y.far_comes
+    far_coming = gone-back l (as_begins l fit) clean w b y.since z
 
-    pub ready-then : Ready u
+    pub ready-then : Ready l fit clean base other_base u
     ready-then =
         let few = near-lost in let few_far = far-lost in let low = y.near_low in let far_is_low = y.far_low in
         record {
-          pair = pair-then l fit.some fit.call.near.0 fit.call.far.0 opposite size fit.t200 a d w p b talk near_clear far_clear;
+          pair = pair-then l fit w p b talk near_clear far_clear;
           near_low = let f0 = few.0 in let f1 = few.1 in let f2 = few.2 in omega (arith, f0, f1, f2, low);
           far_low = let f0 = few_far.0 in let f1 = few_far.1 in let f2 = few_far.2 in omega (arith, f0, f1, f2, far_is_low);
-          near_comes = comes-heard l.way w.near v.near u.near v.far b.near_noise z.near_sent z.near z.far.value z.far.more z.far.comes clean (port_of w.far.at) (port_of v.far.at) z.far_sent.received (port_of u.far.at)
-              (ap (λ (p : Port). p.received) z.far.port ∙ ap (λ o. (port_of v.far.at).received ++ unwrap_or o z.far.value ∷ []) is_clean.1) near_coming;
-          far_comes = comes-heard l.way w.far v.far u.far v.near b.far_noise z.far_sent z.far z.near.value z.near.more z.near.comes clean (port_of w.near.at) (port_of v.near.at) z.near_sent.received (port_of u.near.at)
-              (ap (λ (p : Port). p.received) z.near.port ∙ ap (λ o. (port_of v.near.at).received ++ unwrap_or o z.near.value ∷ []) is_clean.0) far_coming;
+          since = since-one l (as_begins l fit) clean w b y.since z is_clean;
         }
 
     given-now : (length (port_of v.near.at).given ≡ w.beats + 1) × (length (port_of v.far.at).given ≡ w.beats + 1)
-    given-now =
-        let n = ap length z.near_sent.given ∙ length-append (port_of w.near.at).given (z.near_sent.value ∷ []) in
-        let f = ap length z.far_sent.given ∙ length-append (port_of w.far.at).given (z.far_sent.value ∷ []) in
-        let nn = p.near_counts.given in let ff = p.far_counts.given in (omega (arith, n, nn), omega (arith, f, ff))
+    given-now = (given-long w.near.at v.near.at w.beats z.near_sent p.near_counts.given, given-long w.far.at v.far.at w.beats z.far_sent p.far_counts.given)
 
     way-now : (length (z.far.value ∷ z.far.more) ≡ l.way + 1) × (length (z.near.value ∷ z.near.more) ≡ l.way + 1)
-    way-now =
-        let n = sym (ap length z.far.comes) ∙ ap length z.near_sent.way ∙ length-append w.near.at.way (z.near_sent.value ∷ []) in
-        let f = sym (ap length z.near.comes) ∙ ap length z.far_sent.way ∙ length-append w.far.at.way (z.far_sent.value ∷ []) in
-        let nn = p.near_counts.way in let ff = p.far_counts.way in (omega (arith, n, nn), omega (arith, f, ff))
+    way-now = (
+      sym (ap length z.far.comes) ∙ way-long w.near.at v.near.at l.way z.near_sent p.near_counts.way,
+      sym (ap length z.near.comes) ∙ way-long w.far.at v.far.at l.way z.far_sent p.far_counts.way,
+    )
 
     -- the states after the beat
     pub near-state : (n : ℕ) → state_at l u.near ≡ Some n → state_number near_mv.ends.its.state ≡ n
@@ -197,18 +186,18 @@ module _ (l : Line) (fit : IsFit l) (n : ℕ) (x : Exchange n) (start clean base
         same_Some (state_number near_mv.ends.its.state) n
         (sym (state-here l.near l.service l.tei 0 fit.call.near.0 l.lengths l.rate near_then.at near_mv.ends) ∙ ap (state_at l) (sym near-is) ∙ is)
 
-    far-state : (n : ℕ) → state_at l u.far ≡ Some n → state_number far_mv.ends.its.state ≡ n
+    far-state : (n : ℕ) → state_at l u.far ≡ Some n → state_number far_hears.0.ends.its.state ≡ n
     far-state n is =
-        same_Some (state_number far_mv.ends.its.state) n
-        (sym (state-here l.far l.service l.tei 0 fit.call.far.0 l.far_lengths l.rate far_then.at far_mv.ends) ∙ ap (state_at l) (sym far-is) ∙ is)
+        same_Some (state_number far_hears.0.ends.its.state) n
+        (sym (state-here l.far l.service l.tei 0 fit.call.far.0 l.far_lengths l.rate far_then.at far_hears.0.ends) ∙ ap (state_at l) (sym far-is) ∙ is)
 
     module _ (is_waiting : state_at l u.near ≡ Some n) (is_up : n ≡ 8 → (state_at l u.far ≡ Some 7) ⊎ (state_at l u.far ≡ Some 8)) (near_few : lost u.near.at ≤ base) (far_few : lost u.far.at ≤ other_base)
         (late : start ≤ w.beats) where
       abbrev pub NearAfterPull : Type 0
       NearAfterPull = DueAt l.near l.service l.tei 0 fit.call.near.0 x.asking start asked_by l.way w.beats v.near.at near2
 
-      far-up : n ≡ 8 → is_multiple_frame far_mv.ends.its.state ≡ true
-      far-up is = up-is (terms l.far l.service l.tei) far_mv.ends.its.state (elim (is_up is) [ inl e ↦ inl (far-state 7 e) | inr e ↦ inr (far-state 8 e) ])
+      far-up : n ≡ 8 → is_multiple_frame far_hears.0.ends.its.state ≡ true
+      far-up is = up-is (terms l.far l.service l.tei) far_hears.0.ends.its.state (elim (is_up is) [ inl e ↦ inl (far-state 7 e) | inr e ↦ inr (far-state 8 e) ])
 
       -- The command is heard: the answer is put.
       command-now : IsNow (is_of x.asking l.near) start asked_by l.way w.beats (port_of v.near.at) → w.beats ≤ asked_by + l.way → FarDue (w.beats + 1) u.far.at
@@ -217,14 +206,14 @@ module _ (l : Line) (fit : IsFit l) (n : ℕ) (x : Exchange n) (start clean base
           let h = now.0 in
           let it = heard-here l.near.n201 (is_of x.asking l.near) start asked_by l.way w.beats clean (port_of v.near.at) (port_of v.far.at) z.far.value z.far.more
           (fine l.near l.service l.tei 0 fit.call.near.0 v.near.at near2) near_coming now.0 now.1 soon_clean
-          (count-of l.way clean (port_of v.near.at) (port_of v.far.at) (z.far.value ∷ z.far.more) near_coming w.beats g.0 c.0) in
+          (many-of l.way w.beats clean (port_of v.near.at) (z.far.value ∷ z.far.more) (port_of v.far.at) near_coming g.0 c.0) in
           let own = one-among (IsOwn l.near l.service l.tei 0 fit.call.near.0) (port_of v.near.at).items h.front h.o h.more h.items near2.frames in
           let text = text-low l.far l.service l.tei 0 fit.call.far.0 v.far.at far2 in
           let given = g.1 in
           let low = y.far_low in let f0 = far-lost.0 in let f1 = far-lost.1 in
           subst (λ (e : TimedEndpoint). FarDue (w.beats + 1) e.at) (sym far-is)
-          (to-here l.far l.service l.tei fit.call.far.0 x.answering start answered_by l.way (w.beats + 1) far_then.at far_mv.ends
-          (command-heard l.far l.service l.tei fit.call.far.0 l.near fit.call.near.0 l.near.n201 (sym size) refl (sym (sides-turned l.near l.far opposite)) v.far.at far2 z.far.value h.o own it n x far_mv.ends h.its
+          (to-here l.far l.service l.tei fit.call.far.0 x.answering start answered_by l.way (w.beats + 1) far_then.at far_hears.0.ends
+          (command-heard l.far l.service l.tei fit.call.far.0 l.near fit.call.near.0 l.near.n201 (sym size) refl (sym (sides-turned l.near l.far opposite)) v.far.at far2 z.far.value h.o own it n x far_hears.0.ends h.its
           far-up (let few : lost (circuit.happens (port.octet z.far.value) v.far.at) ≤ other_base = subst (λ (e : TimedEndpoint). lost e.at ≤ other_base) far-is far_few in omega (arith, few, low, f0, f1)) start answered_by l.way (w.beats + 1)
           (omega (arith, text, given, late)) (omega (arith, given, soon_heard))))
 
@@ -252,7 +241,7 @@ module _ (l : Line) (fit : IsFit l) (n : ℕ) (x : Exchange n) (start clean base
           let h = now.0 in
           let it = heard-here l.far.n201 (is_of x.answering l.far) start answered_by l.way w.beats clean (port_of v.far.at) (port_of v.near.at) z.near.value z.near.more
           (fine l.far l.service l.tei 0 fit.call.far.0 v.far.at far2) far_coming now.0 now.1 soon_clean
-          (count-of l.way clean (port_of v.far.at) (port_of v.near.at) (z.near.value ∷ z.near.more) far_coming w.beats g.1 c.1) in
+          (many-of l.way w.beats clean (port_of v.far.at) (z.near.value ∷ z.near.more) (port_of v.near.at) far_coming g.1 c.1) in
           let own = one-among (IsOwn l.far l.service l.tei 0 fit.call.far.0) (port_of v.far.at).items h.front h.o h.more h.items far2.frames in
           answer-heard l.near l.service l.tei fit.call.near.0 l.far fit.call.far.0 l.near.n201 refl (sym size) (sym opposite) v.near.at near2 z.near.value h.o own
           (ap (λ n. gained n (port_of v.near.at).received z.near.value) size ∙ it) n x near_mv.ends h.its still (near-state n is_waiting)
@@ -264,10 +253,10 @@ module _ (l : Line) (fit : IsFit l) (n : ℕ) (x : Exchange n) (start clean base
           go (inl now) = absurd (answer-now still now)
           go (inr later) =
               inr (subst (λ (e : TimedEndpoint). FarDue (w.beats + 1) e.at) (sym far-is)
-              (to-here l.far l.service l.tei fit.call.far.0 x.answering start answered_by l.way (w.beats + 1) far_then.at far_mv.ends
+              (to-here l.far l.service l.tei fit.call.far.0 x.answering start answered_by l.way (w.beats + 1) far_then.at far_hears.0.ends
               (due-moved l.far l.service l.tei 0 fit.call.far.0 x.answering start answered_by l.way (w.beats + 1) v.far.at (circuit.happens (port.octet z.far.value) v.far.at) far2
-              (λ e. (f : Parts) × (e ≡ link.received (link.frame f))) far_mv
-              (λ e is. plain l.far l.service l.tei fit.call.far.0 l.near fit.call.near.0 l.near.n201 (sym size) refl (sym (sides-turned l.near l.far opposite)) e (far_mv.by e is)) later)))
+              (λ e. (f : Parts) × (e ≡ link.received (link.frame f))) far_hears.0
+              (λ e is. plain l.far l.service l.tei fit.call.far.0 l.near fit.call.near.0 l.near.n201 (sym size) refl (sym (sides-turned l.near l.far opposite)) e (far_hears.0.by e is)) later)))
 
       pub near-given : length (port_of n1.at).given ≡ w.beats
       near-given = ap (λ (p : Port). length p.given) (near-come l fit w y.pair b talk).port ∙ p.near_counts.given
@@ -276,9 +265,7 @@ module _ (l : Line) (fit : IsFit l) (n : ℕ) (x : Exchange n) (start clean base
       far-given = ap (λ (p : Port). length p.given) (far-come l fit w y.pair b talk).port ∙ p.far_counts.given
 
       few-before : (lost n1.at ≤ base) × (lost f1.at ≤ other_base)
-      few-before =
-          let n1 = near-lost.1 in let n2 = near-lost.2 in let f1 = far-lost.1 in let f2 = far-lost.2 in
-          (omega (arith, n1, n2, near_few), omega (arith, f1, f2, far_few))
+      few-before = grind (arith, near-lost, far-lost)
 
       -- A pull leaves the state.
       pull-state : near2.its.state ≡ near1.its.state

@@ -1,328 +1,281 @@
 -- A beat of the clocked circuit is done on a wire of frames, and T200 is long enough there.
-use Rattle.laws_time.proofs.Vocabulary.{All, Beat, Clocked, FrameEndpoint, HasNo, IsClearAt, IsInRange, IsTalk, Line, LineTold, LinkEndpoint, List, Port, Request, RunsLong, StationStands, TimedEndpoint, TimedOctetCard, Wire, answered_in, ap, arith, asks, beat, card_of, comes_to, drop, fall_due, fold, frames_among, fresh, gone, happens, heard_side, hears, is_final, length, own_side, port_of}
-use Rattle.laws_time.proofs.Vocabulary.{refl, subst, sym, ℕ, ◌*◌, ◌+◌, ◌/◌, ◌≡◌, ◌≤◌}
+use Rattle.laws_time.proofs.Vocabulary.{All, All-nil, Beat, Clocked, FrameEndpoint, HasNo, IsClearAt, IsFit, IsOfLink, IsTalk, Line, LineTold, LinkEndpoint, List, Port, Request, StationStands, TimedEndpoint, Wire, [], all_due, answered_in, ap, arith, asks, beat, card_of, comes_to, drop, fold, frames_among, fresh, gone, happens, hears, is_final, length, port_of, refl, subst, sym, ℕ, ◌*◌, ◌+◌, ◌/◌}
+use Rattle.laws_time.proofs.Vocabulary.{◌≡◌, ◌≤◌}
 use Rattle.model_card.specs.ports.Port as port
 use Rattle.laws_time.proofs.OfCircuit.Fallen.{is_t200, is_t203, fallen}
 use Rattle.laws_time.proofs.OfCircuit.ArrivAs.{station, heard_of}
 use Rattle.laws_time.proofs.OfCircuit.ArrivFair.{IsFair}
 use Rattle.laws_time.proofs.OfCircuit.ArrivHeard.{IsKeptAt, Hears, hears-so}
 use Rattle.laws_time.proofs.OfCircuit.ArrivOpen.{parts, are-own, stands, has-none}
-use Rattle.laws_time.proofs.OfCircuit.ArrivPath.{Manner, Path, path-as, path-none, path-both, path-on, path-turned}
+use Rattle.laws_time.proofs.OfCircuit.ArrivPath.{Manner, Path, path-as, path-both, path-on, path-turned, MayAsk}
 use Rattle.laws_time.proofs.OfCircuit.ArrivPulls.{PulledTo, pulls-to, heard-port}
 use Rattle.laws_time.proofs.OfCircuit.ArrivSide.{Stood, After, all-comes, fair-happens}
 use Rattle.laws_time.proofs.OfCircuit.ArrivWay.{Going, going-with, before-long}
 use Rattle.laws_time.proofs.OfCircuit.Beats.{at-moment, Gone}
-use Rattle.laws_time.proofs.OfCircuit.Ends.{Leads, leads-both, at_time, time-comes}
-use Rattle.laws_time.proofs.OfCircuit.LongEnough.{Pair, by_now, long-ago, near-in-all, far-in-all, in-all, near-low, near-high, far-low, far-high, soon, near-comes, far-comes, near-gone, far-gone}
+use Rattle.laws_time.proofs.OfCircuit.Ends.{leads-both, at_time, time-comes}
+use Rattle.laws_time.proofs.OfCircuit.LongEnough.{Pair, long-ago, near-in-all, in-all, near-low, near-high, soon, near-comes, far-comes, near-gone, far-gone, pair-turned}
 use Rattle.laws_time.proofs.OfCircuit.Standing.{bare}
+use Rattle.laws_time.proofs.OfCircuit.Under.{EndOk}
+use Rattle.laws_time.proofs.OfCircuit.Turned.{fit-turned, turned_line, turned_world}
 
-module _ (l : Line) (some : 1 ≤ l.rate) (near : IsInRange l.near) (far : IsInRange l.far) (opposite : own_side l.far ≡ heard_side l.near) (size : l.near.n201 ≡ l.far.n201)
-    (t200 : RunsLong l l.lengths × RunsLong l l.far_lengths) (t u : TimedOctetCard) where
-  abbrev pub PairNow : Clocked → Type 0
-  PairNow w = Pair l some near far opposite size t200 t u w
-
-  -- The circuit as a wire.
-  pub record Same (w : Clocked) (f : Wire) : Type 0 where
-    pub there : List (List ℕ)
-    pub back : List (List ℕ)
-    pub goes : Going l.near.n201 (port_of w.near.at) w.near.at.way there
-    pub comes : Going l.far.n201 (port_of w.far.at) w.far.at.way back
-    pub ts : List LineTold
-    pub us : List LineTold
-    pub near_is : f.near ≡ station there ts w.near.at
-    pub far_is : f.far ≡ station back us w.far.at
-    pub near_heard : heard_of ts ≡ heard_of w.near.at.told
-    pub far_heard : heard_of us ≡ heard_of w.far.at.told
+-- The circuit as a wire.
+pub record Same (l : Line) (w : Clocked) (f : Wire) : Type 0 where
+  pub there : List (List ℕ)
+  pub back : List (List ℕ)
+  pub goes : Going l.near.n201 (port_of w.near.at) w.near.at.way there
+  pub comes : Going l.far.n201 (port_of w.far.at) w.far.at.way back
+  pub ts : List LineTold
+  pub us : List LineTold
+  pub near_is : f.near ≡ station there ts w.near.at
+  pub far_is : f.far ≡ station back us w.far.at
+  pub near_heard : heard_of ts ≡ heard_of w.near.at.told
+  pub far_heard : heard_of us ≡ heard_of w.far.at.told
 
 -- So many frames both ends have put on their lines.
 abbrev pub put_at : Clocked → ℕ
 put_at w = length (frames_among (port_of w.near.at).items) + length (frames_among (port_of w.far.at).items)
 
-module _ (how : Manner) (l : Line) (some : 1 ≤ l.rate) (near : IsInRange l.near) (far : IsInRange l.far) (opposite : own_side l.far ≡ heard_side l.near) (size : l.near.n201 ≡ l.far.n201)
-    (t200 : RunsLong l l.lengths × RunsLong l l.far_lengths) (t u : TimedOctetCard) (starts : t ≡ fresh l.near l.lengths) (starts_far : u ≡ fresh l.far l.far_lengths) where
-  -- A beat leads there.
-  pub record Led (i j k : ℕ) (w : Clocked) (b : Beat) (x y : FrameEndpoint) : Type 0 where
-    pub f : Wire
-    pub n : ℕ
-    pub path : Path how l.service l.tei i j k n (record { near = x; far = y }) f
-    pub puts : put_at (beat l.rate w b) ≡ put_at w + n
-    pub same : Same l some near far opposite size t200 t u (beat l.rate w b) f
+-- A beat leads there.
+pub record Led (how : Manner) (l : Line) (i j k : ℕ) (w : Clocked) (b : Beat) (x y : FrameEndpoint) : Type 0 where
+  pub f : Wire
+  pub n : ℕ
+  pub path : Path how l.service l.tei i j k n (record { near = x; far = y }) f
+  pub puts : put_at (beat l.rate w b) ≡ put_at w + n
+  pub same : Same l (beat l.rate w b) f
 
-  abbrev its_by_now : ℕ → ℕ
-  its_by_now S = by_now l some near far opposite size t200 t u S
+-- What may be asked for.
+abbrev pub IsBoth : Manner → Line → Request → Type 0
+IsBoth how l r = IsOfLink l.service l.tei r × MayAsk how l.service l.tei r
 
-  module _ (w : Clocked) (p : PairNow l some near far opposite size t200 t u w) (b : Beat) (talk : IsTalk l b) where
-    abbrev n : ℕ
-    n = w.beats
+module _ (how : Manner) (l : Line) (fit : IsFit l) (w : Clocked) (p : Pair l fit w) where
+  pub ago : (S m : ℕ) → S + l.lengths.t200 * l.rate ≤ (m + 1) * l.rate → m ≤ w.beats / l.rate → S + answered_in l.near l.far l.way ≤ w.beats
+  ago S m = long-ago l fit l.lengths fit.t200.0 S w.beats m
 
-    its-soon : w.beats + 1 ≤ (w.beats / l.rate + 1) * l.rate
-    its-soon = soon l some near far opposite size t200 t u w p b talk
+  -- The far end, as it stands meanwhile.
+  module _ (other : TimedEndpoint) (S2 : ℕ) (ok : EndOk l.far l.service l.tei 0 fit.call.far.0 l.far_lengths l.rate S2 p.M2 other) (given : length (port_of other.at).given ≡ w.beats)
+      (way : length other.at.way ≡ l.way) (back : List (List ℕ)) (comes : Going l.far.n201 (port_of other.at) other.at.way back) (us : List LineTold) where
+    abbrev pub far_end : LinkEndpoint
+    far_end = record (bare l.far l.service l.tei 0 fit.call.far.0 ok.but.ends.its) {
+      way = parts l.far l.service l.tei fit.call.far.0 back (are-own l.far l.service l.tei fit.call.far.0 other.at ok.but.ends other.at.way back comes);
+    }
 
-    pub ago : (S m : ℕ) → S + l.lengths.t200 * l.rate ≤ (m + 1) * l.rate → m ≤ w.beats / l.rate → S + answered_in l.near l.far l.way ≤ w.beats
-    ago S m started low = long-ago l some near far opposite size t200 t u l.lengths t200.0 S w.beats m started low
+    pub far-stands : StationStands l.far l.service l.tei 0 (station back us other.at) far_end
+    far-stands = stands l.far l.service l.tei fit.call.far.0 other.at ok.but.ends other.at.way back comes us
 
-    far-ago : (S m : ℕ) → S + l.far_lengths.t200 * l.rate ≤ (m + 1) * l.rate → m ≤ w.beats / l.rate → S + answered_in l.near l.far l.way ≤ w.beats
-    far-ago S m started low = long-ago l some near far opposite size t200 t u l.far_lengths t200.1 S w.beats m started low
+    pub far-finals : (S : ℕ) → p.S ≤ S → S + answered_in l.near l.far l.way ≤ w.beats → HasNo is_final far_end
+    far-finals S later due_ago =
+        let heard_long = before-long l.far.n201 (port_of other.at) other.at.way back comes w.beats l.way given way in
+        let all = in-all l fit p.S in let most = p.far_most in
+        has-none l.far l.service l.tei fit.call.far.0 other.at ok.but.ends other.at.way back comes is_final p.M2 ok.but.finals (omega (arith, later, due_ago, heard_long, all, most))
 
-    -- The far end at first.
-    module _ (back : List (List ℕ)) (comes : Going l.far.n201 (port_of w.far.at) w.far.at.way back) (us : List LineTold) (far_heard : heard_of us ≡ heard_of w.far.at.told) where
-      abbrev pub far_end : LinkEndpoint
-      far_end = record (bare l.far l.service l.tei 0 far p.far_ok.but.ends.its) { way = parts l.far l.service l.tei far back (are-own l.far l.service l.tei far w.far.at p.far_ok.but.ends w.far.at.way back comes) }
+    abbrev pub NearStood : ℕ → TimedEndpoint → FrameEndpoint → Type 0
+    NearStood S a x =
+        Stood how l.service l.tei l.near fit.call.near.0 l.far l.lengths l.rate l.way (answered_in l.near l.far l.way) w.beats (w.beats / l.rate) ago (near-in-all l fit)
+        p.S p.M (station back us other.at) far_end far-stands far-finals S a x
 
-      pub far-stands : StationStands l.far l.service l.tei 0 (station back us w.far.at) far_end
-      far-stands = stands l.far l.service l.tei far w.far.at p.far_ok.but.ends w.far.at.way back comes us
+    abbrev pub NearAfter : ℕ → ℕ → FrameEndpoint → TimedEndpoint → Type 0
+    NearAfter i k x v =
+        After how l.service l.tei l.near fit.call.near.0 l.far l.lengths l.rate l.way (answered_in l.near l.far l.way) w.beats (w.beats / l.rate) ago (near-in-all l fit)
+        p.S p.M (station back us other.at) far_end far-stands far-finals i k x v
 
-      pub far-finals : (S : ℕ) → p.S ≤ S → S + answered_in l.near l.far l.way ≤ w.beats → HasNo is_final far_end
-      far-finals S later due_ago =
-          let heard_long = before-long l.far.n201 (port_of w.far.at) w.far.at.way back comes w.beats l.way p.far_counts.given p.far_counts.way in
-          let all = in-all l some near far opposite size t200 t u p.S in
-          has-none l.far l.service l.tei far w.far.at p.far_ok.but.ends w.far.at.way back comes is_final (its_by_now p.S) p.far_ok.but.finals (omega (arith, later, due_ago, heard_long, all))
+    -- The near end as its moment comes.
+    pub near-stood : (there : List (List ℕ)) → Going l.near.n201 (port_of w.near.at) w.near.at.way there → (ts : List LineTold) → heard_of ts ≡ heard_of w.near.at.told
+        → NearStood p.S (at_time (w.beats / l.rate) w.near) (station there ts w.near.at)
+    near-stood there goes ts heard = record {
+      ok = at-moment l.service l.tei l.way l.lengths l.rate l.near fit.call.near.0 (w.beats / l.rate) w.beats p.S p.M [] w.near p.near_ok p.both.near (near-low l fit w p) (near-high l fit w p)
+          p.near_counts (soon l fit w) (All-nil (IsOfLink l.service l.tei));
+      later = omega arith;
+      given = p.near_counts.given;
+      way = p.near_counts.way;
+      now = refl;
+      soon = let so_soon = soon l fit w in let given = p.near_counts.given in omega (arith, so_soon, given);
+      there = there;
+      goes = goes;
+      ts = ts;
+      is = refl;
+      heard = heard;
+      timed = leads-both (fresh l.near l.lengths) (card_of w.near) (card_of (at_time (w.beats / l.rate) w.near)) p.both.near_leads
+          (time-comes (w.beats / l.rate) w.near p.both.near (near-low l fit w p) (near-high l fit w p)).1;
+    }
 
-      abbrev pub NearStood : ℕ → TimedEndpoint → FrameEndpoint → Type 0
-      NearStood S a x =
-          Stood how l.service l.tei l.near near l.far l.lengths l.rate l.way (answered_in l.near l.far l.way) w.beats (w.beats / l.rate) ago (near-in-all l some near far opposite size t200 t u)
-          p.S (its_by_now p.S2) (station back us w.far.at) far_end far-stands far-finals S a x
+    -- Layer 3 asks, and what is due falls due.
+    pub near-came : (S : ℕ) (a : TimedEndpoint) (x : FrameEndpoint) → NearStood S a x → (rs : List Request) → All (IsBoth how l) rs → IsFair (all_due (fold asks a rs)).at.told
+        → NearAfter (fallen is_t200 (length (fold asks a rs).clock.running) (fold asks a rs)) (fallen is_t203 (length (fold asks a rs).clock.running) (fold asks a rs)) x (all_due (fold asks a rs))
+    near-came S a x stood rs both fair =
+        all-comes how l.service l.tei l.near fit.call.near.0 l.far l.lengths l.rate l.way (answered_in l.near l.far l.way) w.beats (w.beats / l.rate) ago (near-in-all l fit)
+        p.S p.M (station back us other.at) far_end far-stands far-finals rs (length (fold asks a rs).clock.running) S a x stood both fair
 
-      abbrev NearAfter : ℕ → ℕ → FrameEndpoint → TimedEndpoint → Type 0
-      NearAfter i k x v =
-          After how l.service l.tei l.near near l.far l.lengths l.rate l.way (answered_in l.near l.far l.way) w.beats (w.beats / l.rate) ago (near-in-all l some near far opposite size t200 t u)
-          p.S (its_by_now p.S2) (station back us w.far.at) far_end far-stands far-finals i k x v
+module _ (how : Manner) (l : Line) (fit : IsFit l) (w : Clocked) (p : Pair l fit w) (b : Beat) (talk : IsTalk l b)
+    (back : List (List ℕ)) (comes : Going l.far.n201 (port_of w.far.at) w.far.at.way back) (us : List LineTold) (far_heard : heard_of us ≡ heard_of w.far.at.told)
+    (S : ℕ) (a : TimedEndpoint) (x : FrameEndpoint) (stood : NearStood how l fit w p w.far p.S2 p.far_ok p.far_counts.given p.far_counts.way back comes us S a x) (rs : List Request)
+    (is : comes_to (w.beats / l.rate) b.near_asks w.near ≡ all_due (fold asks a rs)) (both : All (IsBoth how l) rs) (far_both : All (IsBoth how l) b.far_asks)
+    (fair : IsFair (gone l.rate b w).near.at.told) (far_fair : IsFair (gone l.rate b w).far.at.told) where
+  abbrev size : l.near.n201 ≡ l.far.n201
+  size = fit.call.opposite.1
 
-      -- The near end as its moment comes.
-      pub near-stood : (there : List (List ℕ)) → Going l.near.n201 (port_of w.near.at) w.near.at.way there → (ts : List LineTold) → heard_of ts ≡ heard_of w.near.at.told
-          → NearStood p.S (at_time (w.beats / l.rate) w.near) (station there ts w.near.at)
-      near-stood there goes ts heard = record {
-        ok = at-moment l.service l.tei l.way l.lengths l.rate l.near near (w.beats / l.rate) w.beats p.S (its_by_now p.S2) b.near_asks w.near p.near_ok p.both.near
-            (near-low l some near far opposite size t200 t u w p b talk) (near-high l some near far opposite size t200 t u w p b talk) p.near_counts its-soon talk.0;
-        later = omega arith;
-        given = p.near_counts.given;
-        way = p.near_counts.way;
-        now = refl;
-        soon = let so_soon = its-soon in let given = p.near_counts.given in omega (arith, so_soon, given);
-        there = there;
-        goes = goes;
-        ts = ts;
-        is = refl;
-        heard = heard;
-        timed = leads-both (fresh l.near l.lengths) (card_of w.near) (card_of (at_time (w.beats / l.rate) w.near)) (subst (λ t. Leads t (card_of w.near)) starts p.both.near_leads)
-            (time-comes (w.beats / l.rate) w.near p.both.near (near-low l some near far opposite size t200 t u w p b talk) (near-high l some near far opposite size t200 t u w p b talk)).1;
-      }
+  abbrev near_gone : TimedEndpoint
+  near_gone = comes_to (w.beats / l.rate) b.near_asks w.near
 
-      module _ (S : ℕ) (a : TimedEndpoint) (x : FrameEndpoint) (stood : NearStood S a x) (rs : List Request)
-          (is : comes_to (w.beats / l.rate) b.near_asks w.near ≡ fall_due (length (fold asks a rs).clock.running) (fold asks a rs))
-          (both : All (λ r. Rattle.laws_time.specs.circuit.LongEnough.IsOfLink l.service l.tei r × Rattle.laws_time.proofs.OfCircuit.ArrivPath.MayAsk how l.service l.tei r) rs)
-          (far_both : All (λ r. Rattle.laws_time.specs.circuit.LongEnough.IsOfLink l.service l.tei r × Rattle.laws_time.proofs.OfCircuit.ArrivPath.MayAsk how l.service l.tei r) b.far_asks)
-          (fair : IsFair (gone l.rate b w).near.at.told) (far_fair : IsFair (gone l.rate b w).far.at.told) where
-        abbrev pub t200s : ℕ
-        t200s = fallen is_t200 (length (fold asks a rs).clock.running) (fold asks a rs)
+  abbrev far_gone : TimedEndpoint
+  far_gone = comes_to (w.beats / l.rate) b.far_asks w.far
 
-        abbrev pub t203s : ℕ
-        t203s = fallen is_t203 (length (fold asks a rs).clock.running) (fold asks a rs)
+  abbrev pub t200s : ℕ
+  t200s = fallen is_t200 (length (fold asks a rs).clock.running) (fold asks a rs)
 
-        g : NearAfter t200s t203s x (comes_to (w.beats / l.rate) b.near_asks w.near)
-        g =
-            subst (NearAfter t200s t203s x) (sym is)
-            (all-comes how l.service l.tei l.near near l.far l.lengths l.rate l.way (answered_in l.near l.far l.way) w.beats (w.beats / l.rate) ago (near-in-all l some near far opposite size t200 t u)
-            p.S (its_by_now p.S2) (station back us w.far.at) far_end far-stands far-finals rs (length (fold asks a rs).clock.running) S a x stood both
-            (subst (λ (v : TimedEndpoint). IsFair v.at.told) is (fair-happens port.pull (comes_to (w.beats / l.rate) b.near_asks w.near) fair)))
+  abbrev pub t203s : ℕ
+  t203s = fallen is_t203 (length (fold asks a rs).clock.running) (fold asks a rs)
 
-        -- The near end, to which the far end comes.
-        abbrev near_end : LinkEndpoint
-        near_end = record (bare l.near l.service l.tei 0 near g.stood.ok.but.ends.its) {
-          way = parts l.near l.service l.tei near g.stood.there
-              (are-own l.near l.service l.tei near (comes_to (w.beats / l.rate) b.near_asks w.near).at g.stood.ok.but.ends (comes_to (w.beats / l.rate) b.near_asks w.near).at.way g.stood.there g.stood.goes);
-        }
+  g : NearAfter how l fit w p w.far p.S2 p.far_ok p.far_counts.given p.far_counts.way back comes us t200s t203s x (comes_to (w.beats / l.rate) b.near_asks w.near)
+  g =
+      subst (NearAfter how l fit w p w.far p.S2 p.far_ok p.far_counts.given p.far_counts.way back comes us t200s t203s x) (sym is)
+      (near-came how l fit w p w.far p.S2 p.far_ok p.far_counts.given p.far_counts.way back comes us S a x stood rs both
+      (subst (λ (v : TimedEndpoint). IsFair v.at.told) is (fair-happens port.pull near_gone fair)))
 
-        abbrev near_now : FrameEndpoint
-        near_now = station g.stood.there g.stood.ts (comes_to (w.beats / l.rate) b.near_asks w.near).at
+  abbrev near_now : FrameEndpoint
+  near_now = station g.stood.there g.stood.ts (comes_to (w.beats / l.rate) b.near_asks w.near).at
 
-        near-stands : StationStands l.near l.service l.tei 0 near_now near_end
-        near-stands =
-            stands l.near l.service l.tei near (comes_to (w.beats / l.rate) b.near_asks w.near).at g.stood.ok.but.ends (comes_to (w.beats / l.rate) b.near_asks w.near).at.way g.stood.there g.stood.goes g.stood.ts
+  abbrev far_asked : TimedEndpoint
+  far_asked = fold asks (at_time (w.beats / l.rate) w.far) b.far_asks
 
-        near-finals : (S : ℕ) → p.S2 ≤ S → S + answered_in l.near l.far l.way ≤ w.beats → HasNo is_final near_end
-        near-finals S later due_ago =
-            let v = (comes_to (w.beats / l.rate) b.near_asks w.near).at in
-            let heard_long = before-long l.near.n201 (port_of v) v.way g.stood.there g.stood.goes w.beats l.way g.stood.given g.stood.way in
-            let all = in-all l some near far opposite size t200 t u p.S2 in
-            has-none l.near l.service l.tei near v g.stood.ok.but.ends v.way g.stood.there g.stood.goes is_final (its_by_now p.S2) g.stood.ok.but.finals (omega (arith, later, due_ago, heard_long, all))
+  abbrev pub far_t200s : ℕ
+  far_t200s = fallen is_t200 (length far_asked.clock.running) far_asked
 
-        abbrev FarStood : ℕ → TimedEndpoint → FrameEndpoint → Type 0
-        FarStood S a x =
-            Stood how l.service l.tei l.far far l.near l.far_lengths l.rate l.way (answered_in l.near l.far l.way) w.beats (w.beats / l.rate) far-ago (far-in-all l some near far opposite size t200 t u)
-            p.S2 (its_by_now p.S) near_now near_end near-stands near-finals S a x
+  abbrev pub far_t203s : ℕ
+  far_t203s = fallen is_t203 (length far_asked.clock.running) far_asked
 
-        abbrev FarAfter : ℕ → ℕ → FrameEndpoint → TimedEndpoint → Type 0
-        FarAfter i k x v =
-            After how l.service l.tei l.far far l.near l.far_lengths l.rate l.way (answered_in l.near l.far l.way) w.beats (w.beats / l.rate) far-ago (far-in-all l some near far opposite size t200 t u)
-            p.S2 (its_by_now p.S) near_now near_end near-stands near-finals i k x v
+  -- The far end, as the near end has come.
+  k : NearAfter how (turned_line l) (fit-turned l fit) (turned_world w) (pair-turned l fit w p) near_gone g.S g.stood.ok g.stood.given g.stood.way g.stood.there g.stood.goes g.stood.ts
+      far_t200s far_t203s (station back us w.far.at) (comes_to (w.beats / l.rate) b.far_asks w.far)
+  k =
+      near-came how (turned_line l) (fit-turned l fit) (turned_world w) (pair-turned l fit w p) near_gone g.S g.stood.ok g.stood.given g.stood.way g.stood.there g.stood.goes g.stood.ts
+      p.S2 (at_time (w.beats / l.rate) w.far) (station back us w.far.at)
+      (near-stood how (turned_line l) (fit-turned l fit) (turned_world w) (pair-turned l fit w p) near_gone g.S g.stood.ok g.stood.given g.stood.way g.stood.there g.stood.goes g.stood.ts back comes us far_heard)
+      b.far_asks far_both (fair-happens port.pull far_gone far_fair)
 
-        far-stood : FarStood p.S2 (at_time (w.beats / l.rate) w.far) (station back us w.far.at)
-        far-stood = record {
-          ok = at-moment l.service l.tei l.way l.far_lengths l.rate l.far far (w.beats / l.rate) w.beats p.S2 (its_by_now p.S) b.far_asks w.far p.far_ok p.both.far
-              (far-low l some near far opposite size t200 t u w p b talk) (far-high l some near far opposite size t200 t u w p b talk) p.far_counts its-soon talk.1;
-          later = omega arith;
-          given = p.far_counts.given;
-          way = p.far_counts.way;
-          now = refl;
-          soon = let so_soon = its-soon in let given = p.far_counts.given in omega (arith, so_soon, given);
-          there = back;
-          goes = comes;
-          ts = us;
-          is = refl;
-          heard = far_heard;
-          timed = leads-both (fresh l.far l.far_lengths) (card_of w.far) (card_of (at_time (w.beats / l.rate) w.far)) (subst (λ t. Leads t (card_of w.far)) starts_far p.both.far_leads)
-              (time-comes (w.beats / l.rate) w.far p.both.far (far-low l some near far opposite size t200 t u w p b talk) (far-high l some near far opposite size t200 t u w p b talk)).1;
-        }
+  -- Both are pulled.
+  abbrev far_now : FrameEndpoint
+  far_now = station k.stood.there k.stood.ts (comes_to (w.beats / l.rate) b.far_asks w.far).at
 
-        abbrev far_asked : TimedEndpoint
-        far_asked = fold asks (at_time (w.beats / l.rate) w.far) b.far_asks
+  np : PulledTo how l.service l.tei l.near fit.call.near.0 near_gone g.stood.ok.but.ends.ran g.stood.there g.stood.goes g.stood.ts g.stood.heard far_now
+  np = pulls-to how l.service l.tei l.near fit.call.near.0 near_gone g.stood.ok.but.ends.ran g.stood.there g.stood.goes g.stood.ts g.stood.heard far_now
 
-        abbrev pub far_t200s : ℕ
-        far_t200s = fallen is_t200 (length far_asked.clock.running) far_asked
+  abbrev near_pulled : FrameEndpoint
+  near_pulled = station np.there' np.ts' (happens port.pull near_gone).at
 
-        abbrev pub far_t203s : ℕ
-        far_t203s = fallen is_t203 (length far_asked.clock.running) far_asked
+  kp : PulledTo how l.service l.tei l.far fit.call.far.0 far_gone k.stood.ok.but.ends.ran k.stood.there k.stood.goes k.stood.ts k.stood.heard near_pulled
+  kp = pulls-to how l.service l.tei l.far fit.call.far.0 far_gone k.stood.ok.but.ends.ran k.stood.there k.stood.goes k.stood.ts k.stood.heard near_pulled
 
-        k : FarAfter far_t200s far_t203s (station back us w.far.at) (comes_to (w.beats / l.rate) b.far_asks w.far)
-        k =
-            all-comes how l.service l.tei l.far far l.near l.far_lengths l.rate l.way (answered_in l.near l.far l.way) w.beats (w.beats / l.rate) far-ago (far-in-all l some near far opposite size t200 t u)
-            p.S2 (its_by_now p.S) near_now near_end near-stands near-finals b.far_asks (length far_asked.clock.running) p.S2 (at_time (w.beats / l.rate) w.far) (station back us w.far.at) far-stood far_both
-            (fair-happens port.pull (comes_to (w.beats / l.rate) b.far_asks w.far) far_fair)
+  abbrev far_pulled : FrameEndpoint
+  far_pulled = station kp.there' kp.ts' (happens port.pull far_gone).at
 
-        -- Both are pulled.
-        abbrev near_gone : TimedEndpoint
-        near_gone = comes_to (w.beats / l.rate) b.near_asks w.near
+  abbrev both_now : FrameEndpoint → FrameEndpoint → Wire
+  both_now x y = record { near = x; far = y }
 
-        abbrev far_gone : TimedEndpoint
-        far_gone = comes_to (w.beats / l.rate) b.far_asks w.far
+  abbrev first_far : FrameEndpoint
+  first_far = station back us w.far.at
 
-        abbrev far_now : FrameEndpoint
-        far_now = station k.stood.there k.stood.ts (comes_to (w.beats / l.rate) b.far_asks w.far).at
+  near-came-path : Path how l.service l.tei t200s 0 t203s 0 (both_now x first_far) (both_now near_now first_far)
+  near-came-path = subst (λ z. Path how l.service l.tei t200s 0 t203s 0 (both_now x first_far) (both_now z first_far)) g.stood.is g.path
 
-        np : PulledTo how l.service l.tei l.near near near_gone g.stood.ok.but.ends.ran g.stood.there g.stood.goes g.stood.ts g.stood.heard far_now
-        np = pulls-to how l.service l.tei l.near near near_gone g.stood.ok.but.ends.ran g.stood.there g.stood.goes g.stood.ts g.stood.heard far_now
+  far-came-path : Path how l.service l.tei 0 far_t200s far_t203s 0 (both_now near_now first_far) (both_now near_now far_now)
+  far-came-path =
+      path-turned how l.service l.tei (both_now first_far near_now) (both_now far_now near_now)
+      (subst (λ z. Path how l.service l.tei far_t200s 0 far_t203s 0 (both_now first_far near_now) (both_now z near_now)) k.stood.is k.path)
 
-        abbrev near_pulled : FrameEndpoint
-        near_pulled = station np.there' np.ts' (happens port.pull near_gone).at
+  pulled-path : Path how l.service l.tei 0 0 0 (np.n + kp.n) (both_now near_now far_now) (both_now near_pulled far_pulled)
+  pulled-path =
+      path-both how l.service l.tei (both_now near_now far_now) (both_now near_pulled far_now) (both_now near_pulled far_pulled) np.path
+      (path-turned how l.service l.tei (both_now far_now near_pulled) (both_now far_pulled near_pulled) kp.path)
 
-        kp : PulledTo how l.service l.tei l.far far far_gone k.stood.ok.but.ends.ran k.stood.there k.stood.goes k.stood.ts k.stood.heard near_pulled
-        kp = pulls-to how l.service l.tei l.far far far_gone k.stood.ok.but.ends.ran k.stood.there k.stood.goes k.stood.ts k.stood.heard near_pulled
+  to-pulled : Path how l.service l.tei t200s far_t200s (t203s + far_t203s) (np.n + kp.n) (both_now x first_far) (both_now near_pulled far_pulled)
+  to-pulled =
+      path-as how l.service l.tei ((t200s + 0) + 0) ((0 + far_t200s) + 0) ((t203s + far_t203s) + 0) ((0 + 0) + (np.n + kp.n)) t200s far_t200s (t203s + far_t203s) (np.n + kp.n)
+      (both_now x first_far) (both_now near_pulled far_pulled) (omega arith) (omega arith) (omega arith) (omega arith)
+      (path-both how l.service l.tei (both_now x first_far) (both_now near_now far_now) (both_now near_pulled far_pulled)
+      (path-both how l.service l.tei (both_now x first_far) (both_now near_now first_far) (both_now near_now far_now) near-came-path far-came-path) pulled-path)
 
-        abbrev far_pulled : FrameEndpoint
-        far_pulled = station kp.there' kp.ts' (happens port.pull far_gone).at
+  -- Both hear.
+  module _ (clear_near : IsClearAt l.near.n201 b.near_noise (gone l.rate b w).near (gone l.rate b w).far) (clear_far : IsClearAt l.near.n201 b.far_noise (gone l.rate b w).far (gone l.rate b w).near)
+      (kept_near : IsKeptAt how l.near.n201 b.near_noise (gone l.rate b w).near (gone l.rate b w).far.at) (kept_far : IsKeptAt how l.near.n201 b.far_noise (gone l.rate b w).far (gone l.rate b w).near.at) where
+    abbrev vn : TimedEndpoint
+    vn = (gone l.rate b w).near
 
-        abbrev both_now : FrameEndpoint → FrameEndpoint → Wire
-        both_now x y = record { near = x; far = y }
+    abbrev vf : TimedEndpoint
+    vf = (gone l.rate b w).far
 
-        abbrev first_far : FrameEndpoint
-        first_far = station back us w.far.at
+    near_has : Gone l.service l.tei l.way l.lengths l.rate l.near fit.call.near.0 (w.beats / l.rate) w.beats p.S p.M (gone l.rate b w).near
+    near_has = near-gone l fit w p b talk
 
-        near-came-path : Path how l.service l.tei t200s 0 t203s 0 (both_now x first_far) (both_now near_now first_far)
-        near-came-path =
-            path-on how l.service l.tei (both_now x first_far) (both_now g.x' first_far) (both_now near_now first_far) g.path
-            (path-none how l.service l.tei (both_now g.x' first_far) (both_now near_now first_far) (ap (λ z. both_now z first_far) g.stood.is))
+    far_has : Gone l.service l.tei l.way l.far_lengths l.rate l.far fit.call.far.0 (w.beats / l.rate) w.beats p.S2 p.M2 (gone l.rate b w).far
+    far_has = far-gone l fit w p b talk
 
-        far-came-path : Path how l.service l.tei 0 far_t200s far_t203s 0 (both_now near_now first_far) (both_now near_now far_now)
-        far-came-path =
-            path-turned how l.service l.tei (both_now first_far near_now) (both_now far_now near_now)
-            (path-on how l.service l.tei (both_now first_far near_now) (both_now k.x' near_now) (both_now far_now near_now) k.path
-            (path-none how l.service l.tei (both_now k.x' near_now) (both_now far_now near_now) (ap (λ z. both_now z near_now) k.stood.is)))
+    nh : Hears how l.service l.tei l.near l.far fit.call.far.0 (sym size) vn near_has.ok.but.ends.stands.config np.there' np.ts' np.heard' vf.at far_has.ok.but.ends.ran far_pulled kp.there' b.near_noise vf.at.way
+    nh =
+        hears-so how l.service l.tei l.near l.far fit.call.far.0 (sym size) vn near_has.ok.but.ends.stands.config np.there' np.ts' np.heard' vf.at far_has.ok.but.ends.ran far_pulled kp.there' b.near_noise vf.at.way l.way far_has.way
+        (subst (λ n. Going n (port_of vf.at) vf.at.way kp.there') (sym size) kp.goes') clear_near kept_near
 
-        pulled-path : Path how l.service l.tei 0 0 0 (np.n + kp.n) (both_now near_now far_now) (both_now near_pulled far_pulled)
-        pulled-path =
-            path-both how l.service l.tei (both_now near_now far_now) (both_now near_pulled far_now) (both_now near_pulled far_pulled) np.path
-            (path-turned how l.service l.tei (both_now far_now near_pulled) (both_now far_pulled near_pulled) kp.path)
+    abbrev near_heard : TimedEndpoint
+    near_heard = hears b.near_noise vf.at.way vn
 
-        to-pulled : Path how l.service l.tei t200s far_t200s (t203s + far_t203s) (np.n + kp.n) (both_now x first_far) (both_now near_pulled far_pulled)
-        to-pulled =
-            path-as how l.service l.tei ((t200s + 0) + 0) ((0 + far_t200s) + 0) ((t203s + far_t203s) + 0) ((0 + 0) + (np.n + kp.n)) t200s far_t200s (t203s + far_t203s) (np.n + kp.n)
-            (both_now x first_far) (both_now near_pulled far_pulled) (omega arith) (omega arith) (omega arith) (omega arith)
-            (path-both how l.service l.tei (both_now x first_far) (both_now near_now far_now) (both_now near_pulled far_pulled)
-            (path-both how l.service l.tei (both_now x first_far) (both_now near_now first_far) (both_now near_now far_now) near-came-path far-came-path) pulled-path)
+    abbrev near_told : FrameEndpoint
+    near_told = station np.there' nh.ts' near_heard.at
 
-        -- Both hear.
-        module _ (clear_near : IsClearAt l.near.n201 b.near_noise (gone l.rate b w).near (gone l.rate b w).far) (clear_far : IsClearAt l.near.n201 b.far_noise (gone l.rate b w).far (gone l.rate b w).near)
-            (kept_near : IsKeptAt how l.near.n201 b.near_noise (gone l.rate b w).near (gone l.rate b w).far.at) (kept_far : IsKeptAt how l.near.n201 b.far_noise (gone l.rate b w).far (gone l.rate b w).near.at) where
-          abbrev vn : TimedEndpoint
-          vn = (gone l.rate b w).near
+    fh : Hears how l.service l.tei l.far l.near fit.call.near.0 size vf far_has.ok.but.ends.stands.config nh.left kp.ts' kp.heard' vn.at near_has.ok.but.ends.ran near_told np.there' b.far_noise vn.at.way
+    fh =
+        hears-so how l.service l.tei l.far l.near fit.call.near.0 size vf far_has.ok.but.ends.stands.config nh.left kp.ts' kp.heard' vn.at near_has.ok.but.ends.ran near_told np.there' b.far_noise vn.at.way l.way near_has.way
+        (subst (λ n. Going n (port_of vn.at) vn.at.way np.there') size np.goes') (subst (λ n. IsClearAt n b.far_noise vf vn) size clear_far)
+        (subst (λ n. IsKeptAt how n b.far_noise vf vn.at) size kept_far)
 
-          abbrev vf : TimedEndpoint
-          vf = (gone l.rate b w).far
+    abbrev far_heard_now : TimedEndpoint
+    far_heard_now = hears b.far_noise vn.at.way vf
 
-          near_has : Gone l.service l.tei l.way l.lengths l.rate l.near near (w.beats / l.rate) w.beats p.S (its_by_now p.S2) (gone l.rate b w).near
-          near_has = near-gone l some near far opposite size t200 t u w p b talk clear_near clear_far
+    abbrev last : Wire
+    last = both_now (station fh.left nh.ts' near_heard.at) (station nh.left fh.ts' far_heard_now.at)
 
-          far_has : Gone l.service l.tei l.way l.far_lengths l.rate l.far far (w.beats / l.rate) w.beats p.S2 (its_by_now p.S) (gone l.rate b w).far
-          far_has = far-gone l some near far opposite size t200 t u w p b talk clear_near clear_far
+    abbrev SamePort : TimedEndpoint → TimedEndpoint → Type 0
+    SamePort v heard = ((port_of heard.at).items ≡ (port_of v.at).items) × ((port_of heard.at).given ≡ (port_of v.at).given) × (heard.at.way ≡ v.at.way)
 
-          nh : Hears how l.service l.tei l.near l.far far (sym size) vn near_has.ok.but.ends.stands.config np.there' np.ts' np.heard' vf.at far_has.ok.but.ends.ran far_pulled kp.there' b.near_noise vf.at.way
-          nh =
-              hears-so how l.service l.tei l.near l.far far (sym size) vn near_has.ok.but.ends.stands.config np.there' np.ts' np.heard' vf.at far_has.ok.but.ends.ran far_pulled kp.there' b.near_noise vf.at.way l.way far_has.way
-              (subst (λ n. Going n (port_of vf.at) vf.at.way kp.there') (sym size) kp.goes') clear_near kept_near
+    near-port : SamePort vn near_heard
+    near-port = heard-port l.near fit.call.near.0 vn near_has.ok.but.ends.ran b.near_noise vf.at.way
 
-          abbrev near_heard : TimedEndpoint
-          near_heard = hears b.near_noise vf.at.way vn
+    far-port : SamePort vf far_heard_now
+    far-port = heard-port l.far fit.call.far.0 vf far_has.ok.but.ends.ran b.far_noise vn.at.way
 
-          abbrev near_told : FrameEndpoint
-          near_told = station np.there' nh.ts' near_heard.at
+    beat-path : Path how l.service l.tei t200s far_t200s (t203s + far_t203s) (np.n + kp.n) (both_now x (station back us w.far.at)) last
+    beat-path =
+        path-on how l.service l.tei (both_now x (station back us w.far.at)) (both_now near_pulled far_pulled) last to-pulled
+        (path-both how l.service l.tei (both_now near_pulled far_pulled) (both_now near_told (station nh.left kp.ts' vf.at)) last nh.path
+        (path-turned how l.service l.tei (both_now (station nh.left kp.ts' vf.at) near_told) (both_now (station nh.left fh.ts' far_heard_now.at) (station fh.left nh.ts' near_heard.at)) fh.path))
 
-          fh : Hears how l.service l.tei l.far l.near near size vf far_has.ok.but.ends.stands.config nh.left kp.ts' kp.heard' vn.at near_has.ok.but.ends.ran near_told np.there' b.far_noise vn.at.way
-          fh =
-              hears-so how l.service l.tei l.far l.near near size vf far_has.ok.but.ends.stands.config nh.left kp.ts' kp.heard' vn.at near_has.ok.but.ends.ran near_told np.there' b.far_noise vn.at.way l.way near_has.way
-              (subst (λ n. Going n (port_of vn.at) vn.at.way np.there') size np.goes') (subst (λ n. IsClearAt n b.far_noise vf vn) size clear_far)
-              (subst (λ n. IsKeptAt how n b.far_noise vf vn.at) size kept_far)
+    beat-same : Same l (beat l.rate w b) last
+    beat-same = record {
+      there = fh.left;
+      back = nh.left;
+      goes =
+          going-with l.near.n201 (port_of vn.at) (port_of near_heard.at) (drop 1 vn.at.way) (drop 1 near_heard.at.way) fh.left near-port.0 near-port.1 (ap (drop 1) near-port.2)
+          (subst (λ n. Going n (port_of vn.at) (drop 1 vn.at.way) fh.left) (sym size) fh.goes);
+      comes =
+          going-with l.far.n201 (port_of vf.at) (port_of far_heard_now.at) (drop 1 vf.at.way) (drop 1 far_heard_now.at.way) nh.left far-port.0 far-port.1 (ap (drop 1) far-port.2)
+          (subst (λ n. Going n (port_of vf.at) (drop 1 vf.at.way) nh.left) size nh.goes);
+      ts = nh.ts';
+      us = fh.ts';
+      near_is = refl;
+      far_is = refl;
+      near_heard = nh.heard';
+      far_heard = fh.heard';
+    }
 
-          abbrev far_heard_now : TimedEndpoint
-          far_heard_now = hears b.far_noise vn.at.way vf
+    near_same : port_of near_gone.at ≡ port_of w.near.at
+    near_same = (near-comes l fit w p b talk (length (fold asks (at_time (w.beats / l.rate) w.near) b.near_asks).clock.running)).port
 
-          abbrev last : Wire
-          last = both_now (station fh.left nh.ts' near_heard.at) (station nh.left fh.ts' far_heard_now.at)
+    far_same : port_of far_gone.at ≡ port_of w.far.at
+    far_same = (far-comes l fit w p b talk (length (fold asks (at_time (w.beats / l.rate) w.far) b.far_asks).clock.running)).port
 
-          abbrev SamePort : TimedEndpoint → TimedEndpoint → Type 0
-          SamePort v heard = ((port_of heard.at).items ≡ (port_of v.at).items) × ((port_of heard.at).given ≡ (port_of v.at).given) × (heard.at.way ≡ v.at.way)
+    beat-puts : put_at (beat l.rate w b) ≡ put_at w + (np.n + kp.n)
+    beat-puts =
+        let a = ap (λ is. length (frames_among is)) near-port.0 in let b1 = np.puts in let c1 = ap (λ (p : Port). length (frames_among p.items)) near_same in
+        let d1 = ap (λ is. length (frames_among is)) far-port.0 in let e = kp.puts in let f1 = ap (λ (p : Port). length (frames_among p.items)) far_same in
+        omega (arith, a, b1, c1, d1, e, f1)
 
-          near-port : SamePort vn near_heard
-          near-port = heard-port l.near near vn near_has.ok.but.ends.ran b.near_noise vf.at.way
-
-          far-port : SamePort vf far_heard_now
-          far-port = heard-port l.far far vf far_has.ok.but.ends.ran b.far_noise vn.at.way
-
-          beat-path : Path how l.service l.tei t200s far_t200s (t203s + far_t203s) (np.n + kp.n) (both_now x (station back us w.far.at)) last
-          beat-path =
-              path-on how l.service l.tei (both_now x (station back us w.far.at)) (both_now near_pulled far_pulled) last to-pulled
-              (path-both how l.service l.tei (both_now near_pulled far_pulled) (both_now near_told (station nh.left kp.ts' vf.at)) last nh.path
-              (path-turned how l.service l.tei (both_now (station nh.left kp.ts' vf.at) near_told) (both_now (station nh.left fh.ts' far_heard_now.at) (station fh.left nh.ts' near_heard.at)) fh.path))
-
-          beat-same : Same l some near far opposite size t200 t u (beat l.rate w b) last
-          beat-same = record {
-            there = fh.left;
-            back = nh.left;
-            goes =
-                going-with l.near.n201 (port_of vn.at) (port_of near_heard.at) (drop 1 vn.at.way) (drop 1 near_heard.at.way) fh.left near-port.0 near-port.1 (ap (drop 1) near-port.2)
-                (subst (λ n. Going n (port_of vn.at) (drop 1 vn.at.way) fh.left) (sym size) fh.goes);
-            comes =
-                going-with l.far.n201 (port_of vf.at) (port_of far_heard_now.at) (drop 1 vf.at.way) (drop 1 far_heard_now.at.way) nh.left far-port.0 far-port.1 (ap (drop 1) far-port.2)
-                (subst (λ n. Going n (port_of vf.at) (drop 1 vf.at.way) nh.left) size nh.goes);
-            ts = nh.ts';
-            us = fh.ts';
-            near_is = refl;
-            far_is = refl;
-            near_heard = nh.heard';
-            far_heard = fh.heard';
-          }
-
-          near_same : port_of near_gone.at ≡ port_of w.near.at
-          near_same = (near-comes l some near far opposite size t200 t u w p b talk (length (fold asks (at_time (w.beats / l.rate) w.near) b.near_asks).clock.running)).port
-
-          far_same : port_of far_gone.at ≡ port_of w.far.at
-          far_same = (far-comes l some near far opposite size t200 t u w p b talk (length (fold asks (at_time (w.beats / l.rate) w.far) b.far_asks).clock.running)).port
-
-          beat-puts : put_at (beat l.rate w b) ≡ put_at w + (np.n + kp.n)
-          beat-puts =
-              let a = ap (λ is. length (frames_among is)) near-port.0 in let b1 = np.puts in let c1 = ap (λ (p : Port). length (frames_among p.items)) near_same in
-              let d1 = ap (λ is. length (frames_among is)) far-port.0 in let e = kp.puts in let f1 = ap (λ (p : Port). length (frames_among p.items)) far_same in
-              omega (arith, a, b1, c1, d1, e, f1)
-
-          pub beat-on : Led t200s far_t200s (t203s + far_t203s) w b x (station back us w.far.at)
-          beat-on = record { f = last; n = np.n + kp.n; path = beat-path; same = beat-same; puts = beat-puts }
+    pub beat-on : Led how l t200s far_t200s (t203s + far_t203s) w b x (station back us w.far.at)
+    beat-on = record { f = last; n = np.n + kp.n; path = beat-path; same = beat-same; puts = beat-puts }

@@ -1,19 +1,19 @@
 -- The circuit begins as a call on a wire, as soon as it is asked for.
-use Rattle.laws_time.proofs.Vocabulary.{All, All-head, All-nil, All-tail, AreAsked, AreClear, AreInRange, Assign, Beat, Clocked, Config, Establish, FrameEndpoint, IsClearAt, IsFit, IsIdle as AsksNothing, IsInRange, IsOfLink, IsTalk, Lengths, Line, List, Ran, Request, Service, TimedEndpoint, [], after, ap, asked, asked-as, asked-way, beat, begins, calls, comes_to, drop, endpoint, flags}
-use Rattle.laws_time.proofs.Vocabulary.{fold-append, gone, hears, length, obeyed, octet_endpoint, port_of, stopped, subst, sym, ℕ, ◌++◌, ◌/◌, ◌<◌, ◌∷◌, ◌≡◌, ◌≤◌}
+use Rattle.laws_time.proofs.Vocabulary.{All, All-head, All-nil, All-tail, AreAsked, AreClear, AreInRange, Assign, Beat, Clocked, Config, Establish, FrameEndpoint, IsClearAt, IsFit, IsIdle as AsksNothing, IsInRange, IsOfLink, IsTalk, Lengths, Line, List, Request, Service, TimedEndpoint, [], after, ap, asked, asked-as, asked-way, beat, begins, calls, comes_to, drop, endpoint, flags, fold-append}
+use Rattle.laws_time.proofs.Vocabulary.{gone, hears, length, obeyed, octet_endpoint, port_of, stopped, subst, sym, ℕ, ◌++◌, ◌/◌, ◌<◌, ◌∷◌, ◌≡◌, ◌≤◌}
 use Rattle.model_line.specs.Event as line
 use Rattle.laws_wire.specs.Call as call
 use Rattle.laws_wire.specs.Wire as wire
 use Rattle.laws_time.proofs.OfCircuit.ArrivAs.{station, heard_of}
+use Rattle.laws_time.proofs.OfCircuit.ArrivPath.{Manner, of_call}
 use Rattle.laws_time.proofs.OfCircuit.ArrivPulls.{heard-port}
 use Rattle.laws_time.proofs.OfCircuit.ArrivIdle.{IsIdle, comes-none, idle-at, pulls-idle, hears-idle}
 use Rattle.laws_time.proofs.OfCircuit.ArrivRun.{Reached, ReachedSome, AreAskedSo, AreKept, call-kept, IsFairBoth, first-going, reached-by-from}
-use Rattle.laws_time.proofs.OfCircuit.ArrivPath.{Manner, of_call}
 use Rattle.laws_time.proofs.OfCircuit.ArrivWay.{Going, going-with}
-use Rattle.laws_time.proofs.OfCircuit.Beats.{Gone}
 use Rattle.laws_time.proofs.OfCircuit.Began.{port-is, none-ordered}
-use Rattle.laws_time.proofs.OfCircuit.InTime.{PairNow, near_card, far_card, pair-begins}
-use Rattle.laws_time.proofs.OfCircuit.LongEnough.{pair-then, near-comes, far-comes, near-gone, far-gone, by_now, clear-parts}
+use Rattle.laws_time.proofs.OfCircuit.InTime.{pair-begins}
+use Rattle.laws_time.proofs.OfCircuit.LongEnough.{pair-then, near-comes, near-gone, far-gone, clear-parts, Pair, pair-turned}
+use Rattle.laws_time.proofs.OfCircuit.Turned.{fit-turned, turned_beat, turned_line, turned_world}
 
 assigned-as : (c : Config) (number way tei : ℕ) (lengths : Lengths) → let s = endpoint c number lengths way tei in station [] s.at.told s.at ≡ call.assigned c number tei
 assigned-as c number way tei lengths = asked-as (Assign tei) (record (octet_endpoint c number) { way = flags way }) []
@@ -33,7 +33,7 @@ idle-first c service tei number way ranged within few lengths in_range rate =
 module _ (l : Line) (fit : IsFit l) where
   -- Nothing was asked for.
   pub record IdleNow (w : Clocked) : Type 0 where
-    pub pair : PairNow l fit w
+    pub pair : Pair l fit w
     pub near : IsIdle l.near l.near_line l.tei w.near
     pub far : IsIdle l.far l.far_line l.tei w.far
     pub goes : Going l.near.n201 (port_of w.near.at) w.near.at.way []
@@ -55,99 +55,52 @@ module _ (l : Line) (fit : IsFit l) where
   none-asked : (rs : List Request) → rs ≡ [] → All (IsOfLink l.service l.tei) rs
   none-asked rs none = subst (All (IsOfLink l.service l.tei)) (sym none) (All-nil (IsOfLink l.service l.tei))
 
-  module _ (w : Clocked) (b : Beat) (h : IdleNow w) (nothing : AsksNothing b) where
-    talk : IsTalk l b
-    talk = (none-asked b.near_asks nothing.0, none-asked b.far_asks nothing.1)
+  nothing-talks : (b : Beat) → AsksNothing b → IsTalk l b
+  nothing-talks b nothing = (none-asked b.near_asks nothing.0, none-asked b.far_asks nothing.1)
 
-    abbrev un : TimedEndpoint
-    un = comes_to (w.beats / l.rate) b.near_asks w.near
+  near-pulled : (w : Clocked) (h : IdleNow w) (b : Beat) (nothing : AsksNothing b) → let v = (gone l.rate b w).near in IsIdle l.near l.near_line l.tei v × Going l.near.n201 (port_of v.at) v.at.way []
+  near-pulled w h b nothing =
+      let c = fit.call in
+      let same = comes-none (w.beats / l.rate) b.near_asks w.near nothing.0 h.near.none_run in
+      pulls-idle l.service l.near c.near.0 l.near_line l.tei c.near.1 c.terminal (comes_to (w.beats / l.rate) b.near_asks w.near)
+      (subst (IsIdle l.near l.near_line l.tei) (sym same) (idle-at l.service l.near c.near.0 l.near_line l.tei c.near.1 c.terminal (w.beats / l.rate) w.near h.near))
+      (near-comes l fit w h.pair b (nothing-talks b nothing) (length (asked (w.beats / l.rate) b.near_asks w.near).clock.running)).ok.but.ends.ran
+      (subst (λ (z : TimedEndpoint). Going l.near.n201 (port_of z.at) z.at.way []) (sym same) h.goes)
 
-    abbrev uf : TimedEndpoint
-    uf = comes_to (w.beats / l.rate) b.far_asks w.far
+-- From the other side.
+abbrev idle-turned : (l : Line) (fit : IsFit l) (w : Clocked) → IdleNow l fit w → IdleNow (turned_line l) (fit-turned l fit) (turned_world w)
+idle-turned l fit w h = record { pair = pair-turned l fit w h.pair; near = h.far; far = h.near; goes = h.comes; comes = h.goes }
 
-    near-ran : Ran l.near (comes_to (w.beats / l.rate) b.near_asks w.near).at
-    near-ran =
-        let c = fit.call in
-        (near-comes l fit.some c.near.0 c.far.0 c.opposite.0 c.opposite.1 fit.t200 (near_card l fit) (far_card l fit) w h.pair b talk (length (asked (w.beats / l.rate) b.near_asks w.near).clock.running)).ok.but.ends.ran
+-- The near end hears an octet of the far one.
+near-heard : (l : Line) (fit : IsFit l) (w : Clocked) (h : IdleNow l fit w) (b : Beat) (nothing : AsksNothing b) → IsClearAt l.near.n201 b.near_noise (gone l.rate b w).near (gone l.rate b w).far
+    → let u = beat l.rate w b in IsIdle l.near l.near_line l.tei u.near × Going l.far.n201 (port_of u.far.at) u.far.at.way []
+near-heard l fit w h b nothing clear =
+    let c = fit.call in let size = fit.call.opposite.1 in
+    let vn = (gone l.rate b w).near in let vf = (gone l.rate b w).far in let f = hears b.far_noise vn.at.way vf in
+    let near_has = near-gone l fit w h.pair b (nothing-talks l fit b nothing) in let far_has = far-gone l fit w h.pair b (nothing-talks l fit b nothing) in
+    let far_pulled = near-pulled (turned_line l) (fit-turned l fit) (turned_world w) (idle-turned l fit w h) (turned_beat b) (nothing.1, nothing.0) in
+    let x = hears-idle l.service l.near c.near.0 l.near_line l.tei c.near.1 c.terminal l.far c.far.0 (sym size) vn near_has.ok.but.ends.stands.config (near-pulled l fit w h b nothing).0 vf.at
+    far_has.ok.but.ends.ran b.near_noise vf.at.way l.way far_has.way (subst (λ n. Going n (port_of vf.at) vf.at.way []) (sym size) far_pulled.1) clear in
+    let same = heard-port l.far c.far.0 vf far_has.ok.but.ends.ran b.far_noise vn.at.way in (
+      record { same = x.0.same; heard = x.0.heard; none_run = x.0.none_run },
+      going-with l.far.n201 (port_of vf.at) (port_of f.at) (drop 1 vf.at.way) (drop 1 f.at.way) [] same.0 same.1 (ap (drop 1) same.2)
+          (subst (λ n. Going n (port_of vf.at) (drop 1 vf.at.way) []) size x.1),
+    )
 
-    far-ran : Ran l.far (comes_to (w.beats / l.rate) b.far_asks w.far).at
-    far-ran =
-        let c = fit.call in
-        (far-comes l fit.some c.near.0 c.far.0 c.opposite.0 c.opposite.1 fit.t200 (near_card l fit) (far_card l fit) w h.pair b talk (length (asked (w.beats / l.rate) b.far_asks w.far).clock.running)).ok.but.ends.ran
+module _ (l : Line) (fit : IsFit l) where
+  idle-beat : (w : Clocked) (h : IdleNow l fit w) (b : Beat) → AsksNothing b → let v = gone l.rate b w in IsClearAt l.near.n201 b.near_noise v.near v.far → IsClearAt l.near.n201 b.far_noise v.far v.near
+      → IdleNow l fit (beat l.rate w b)
+  idle-beat w h b nothing clear_near clear_far =
+      let v = gone l.rate b w in let x = near-heard l fit w h b nothing clear_near in
+      let y = near-heard (turned_line l) (fit-turned l fit) (turned_world w) (idle-turned l fit w h) (turned_beat b) (nothing.1, nothing.0)
+      (subst (λ n. IsClearAt n b.far_noise v.far v.near) fit.call.opposite.1 clear_far) in
+      record { pair = pair-then l fit w h.pair b (nothing-talks l fit b nothing) clear_near clear_far; near = x.0; far = y.0; goes = y.1; comes = x.1 }
 
-    abbrev NearPulled : Type 0
-    NearPulled = IsIdle l.near l.near_line l.tei (gone l.rate b w).near × Going l.near.n201 (port_of (gone l.rate b w).near.at) (gone l.rate b w).near.at.way []
-
-    abbrev FarPulled : Type 0
-    FarPulled = IsIdle l.far l.far_line l.tei (gone l.rate b w).far × Going l.far.n201 (port_of (gone l.rate b w).far.at) (gone l.rate b w).far.at.way []
-
-    near-pulled : NearPulled
-    near-pulled =
-        let c = fit.call in
-        let same = comes-none (w.beats / l.rate) b.near_asks w.near nothing.0 h.near.none_run in
-        pulls-idle l.service l.near c.near.0 l.near_line l.tei c.near.1 c.terminal un
-        (subst (IsIdle l.near l.near_line l.tei) (sym same) (idle-at l.service l.near c.near.0 l.near_line l.tei c.near.1 c.terminal (w.beats / l.rate) w.near h.near))
-        near-ran (subst (λ (z : TimedEndpoint). Going l.near.n201 (port_of z.at) z.at.way []) (sym same) h.goes)
-
-    far-pulled : FarPulled
-    far-pulled =
-        let c = fit.call in
-        let same = comes-none (w.beats / l.rate) b.far_asks w.far nothing.1 h.far.none_run in
-        pulls-idle l.service l.far c.far.0 l.far_line l.tei c.far.1 c.terminal uf
-        (subst (IsIdle l.far l.far_line l.tei) (sym same) (idle-at l.service l.far c.far.0 l.far_line l.tei c.far.1 c.terminal (w.beats / l.rate) w.far h.far))
-        far-ran (subst (λ (z : TimedEndpoint). Going l.far.n201 (port_of z.at) z.at.way []) (sym same) h.comes)
-
-    module _ (clear_near : IsClearAt l.near.n201 b.near_noise (gone l.rate b w).near (gone l.rate b w).far) (clear_far : IsClearAt l.near.n201 b.far_noise (gone l.rate b w).far (gone l.rate b w).near) where
-      abbrev vn : TimedEndpoint
-      vn = (gone l.rate b w).near
-
-      abbrev vf : TimedEndpoint
-      vf = (gone l.rate b w).far
-
-      near_has : Gone l.service l.tei l.way l.lengths l.rate l.near fit.call.near.0 (w.beats / l.rate) w.beats h.pair.S
-          (by_now l fit.some fit.call.near.0 fit.call.far.0 fit.call.opposite.0 fit.call.opposite.1 fit.t200 (near_card l fit) (far_card l fit) h.pair.S2) (gone l.rate b w).near
-      near_has =
-          let c = fit.call in near-gone l fit.some c.near.0 c.far.0 c.opposite.0 c.opposite.1 fit.t200 (near_card l fit) (far_card l fit) w h.pair b talk clear_near clear_far
-
-      far_has : Gone l.service l.tei l.way l.far_lengths l.rate l.far fit.call.far.0 (w.beats / l.rate) w.beats h.pair.S2
-          (by_now l fit.some fit.call.near.0 fit.call.far.0 fit.call.opposite.0 fit.call.opposite.1 fit.t200 (near_card l fit) (far_card l fit) h.pair.S) (gone l.rate b w).far
-      far_has =
-          let c = fit.call in far-gone l fit.some c.near.0 c.far.0 c.opposite.0 c.opposite.1 fit.t200 (near_card l fit) (far_card l fit) w h.pair b talk clear_near clear_far
-
-      nh : IsIdle l.near l.near_line l.tei (hears b.near_noise vf.at.way vn) × Going l.near.n201 (port_of vf.at) (drop 1 vf.at.way) []
-      nh =
-          let c = fit.call in
-          hears-idle l.service l.near c.near.0 l.near_line l.tei c.near.1 c.terminal l.far c.far.0 (sym fit.call.opposite.1) vn near_has.ok.but.ends.stands.config near-pulled.0 vf.at far_has.ok.but.ends.ran
-          b.near_noise vf.at.way l.way far_has.way (subst (λ n. Going n (port_of vf.at) vf.at.way []) (sym fit.call.opposite.1) far-pulled.1) clear_near
-
-      fh : IsIdle l.far l.far_line l.tei (hears b.far_noise vn.at.way vf) × Going l.far.n201 (port_of vn.at) (drop 1 vn.at.way) []
-      fh =
-          let c = fit.call in
-          hears-idle l.service l.far c.far.0 l.far_line l.tei c.far.1 c.terminal l.near c.near.0 fit.call.opposite.1 vf far_has.ok.but.ends.stands.config far-pulled.0 vn.at near_has.ok.but.ends.ran
-          b.far_noise vn.at.way l.way near_has.way (subst (λ n. Going n (port_of vn.at) vn.at.way []) fit.call.opposite.1 near-pulled.1)
-          (subst (λ n. IsClearAt n b.far_noise vf vn) fit.call.opposite.1 clear_far)
-
-      idle-beat : IdleNow (beat l.rate w b)
-      idle-beat =
-          let c = fit.call in
-          let n = hears b.near_noise vf.at.way vn in let f = hears b.far_noise vn.at.way vf in
-          let np = heard-port l.near c.near.0 vn near_has.ok.but.ends.ran b.near_noise vf.at.way in
-          let fp = heard-port l.far c.far.0 vf far_has.ok.but.ends.ran b.far_noise vn.at.way in
-          record {
-            pair = pair-then l fit.some c.near.0 c.far.0 c.opposite.0 c.opposite.1 fit.t200 (near_card l fit) (far_card l fit) w h.pair b talk clear_near clear_far;
-            near = record { same = nh.0.same; heard = nh.0.heard; none_run = nh.0.none_run };
-            far = record { same = fh.0.same; heard = fh.0.heard; none_run = fh.0.none_run };
-            goes = going-with l.near.n201 (port_of vn.at) (port_of n.at) (drop 1 vn.at.way) (drop 1 n.at.way) [] np.0 np.1 (ap (drop 1) np.2)
-                (subst (λ n. Going n (port_of vn.at) (drop 1 vn.at.way) []) (sym fit.call.opposite.1) fh.1);
-            comes = going-with l.far.n201 (port_of vf.at) (port_of f.at) (drop 1 vf.at.way) (drop 1 f.at.way) [] fp.0 fp.1 (ap (drop 1) fp.2)
-                (subst (λ n. Going n (port_of vf.at) (drop 1 vf.at.way) []) fit.call.opposite.1 nh.1);
-          }
-
-  pub all-idle : (before : List Beat) → All AsksNothing before → (w : Clocked) → IdleNow w → AreClear l before w → IdleNow (after l.rate before w)
+  pub all-idle : (before : List Beat) → All AsksNothing before → (w : Clocked) → IdleNow l fit w → AreClear l before w → IdleNow l fit (after l.rate before w)
   unfolding AreClear
   all-idle [] all w h clear = h
   all-idle (b ∷ before) all w h clear =
-      all-idle before (All-tail AsksNothing b before all) (beat l.rate w b) (idle-beat w b h (All-head AsksNothing b before all) clear.0 clear.1) clear.2
+      all-idle before (All-tail AsksNothing b before all) (beat l.rate w b) (idle-beat w h b (All-head AsksNothing b before all) clear.0 clear.1) clear.2
 
   pub reached-by : (how : Manner) (before : List Beat) (b : Beat) (bs : List Beat) → All AsksNothing before → AreAskedSo how l b → All (AreAskedSo how l) bs → AreClear l (before ++ calls l b ∷ bs) (begins l)
       → AreKept how l (calls l b ∷ bs) (after l.rate before (begins l)) → IsFairBoth (after l.rate (before ++ calls l b ∷ bs) (begins l))
@@ -155,7 +108,7 @@ module _ (l : Line) (fit : IsFit l) where
   reached-by how before b bs nothing are_asked all clear kept fair =
       let v = after l.rate before (begins l) in
       let parts = clear-parts l before (calls l b ∷ bs) (begins l) clear in
-      let h = all-idle before nothing (begins l) idle-begins parts.0 in
+      let h = all-idle before nothing (begins l) (idle-begins l fit) parts.0 in
       let both : after l.rate (before ++ calls l b ∷ bs) (begins l) ≡ after l.rate (calls l b ∷ bs) v = fold-append (beat l.rate) (begins l) before (calls l b ∷ bs) in
       subst (ReachedSome how l fit (call.calling l.service l.tei l.near l.near_line l.far l.far_line)) (sym both)
       (subst (λ w. ReachedSome how l fit w (after l.rate (calls l b ∷ bs) v))

@@ -11,9 +11,7 @@ abbrev pub IsFair : List LineTold → Type 0
 IsFair ts = list_any is_used_up (codes ts) ≡ false
 
 pub codes-append : (ts us : List LineTold) → codes (ts ++ us) ≡ codes ts ++ codes us
-codes-append ts us =
-    ap (flat_map error_in) (flat_map-append (λ (t : LineTold). t.notes) ts us)
-    ∙ flat_map-append error_in (flat_map (λ (t : LineTold). t.notes) ts) (flat_map (λ (t : LineTold). t.notes) us)
+codes-append ts us = grind (arith, flat_map-append)
 
 pub fair-parts : (ts us : List LineTold) → IsFair (ts ++ us) → IsFair ts × IsFair us
 fair-parts ts us is =

@@ -37,9 +37,6 @@ module _ (how : Manner) (service : Service) (tei : ℕ) (c d : Config) (ranged_f
       (clear : (e : stream.Event) → gained c.n201 (port_of a.at).received (unwrap_or noise value) ≡ Some e → IsFrame e
       → (before : List ℕ) × ((port_of other).given ≡ before ++ value ∷ more) × (gained c.n201 before value ≡ Some e))
       (kept : MayLose how ⊎ ((before : List ℕ) → (port_of other).given ≡ before ++ value ∷ more → gained c.n201 (port_of a.at).received (unwrap_or noise value) ≡ gained c.n201 before value)) where
-    abbrev got : ℕ
-    got = unwrap_or noise value
-
     abbrev o : Option stream.Event
     o = gained c.n201 (port_of a.at).received (unwrap_or noise value)
 
@@ -47,12 +44,12 @@ module _ (how : Manner) (service : Service) (tei : ℕ) (c d : Config) (ranged_f
     u = circuit.happens (port.octet (unwrap_or noise value)) a.at
 
     here : (o : Option stream.Event) → gained c.n201 (port_of a.at).received (unwrap_or noise value) ≡ o → gained a.at.card.card.config.n201 (port_of a.at).received (unwrap_or noise value) ≡ o
-    here o is = ap (λ (k : Config). gained k.n201 (port_of a.at).received got) config ∙ is
+    here o is = ap (λ (k : Config). gained k.n201 (port_of a.at).received (unwrap_or noise value)) config ∙ is
 
     -- No frame is gained.
     still : (o : Option stream.Event) → gained c.n201 (port_of a.at).received (unwrap_or noise value) ≡ o → ((e : stream.Event) → o ≡ Some e → IsFrame e → ⊥) → Becomes (station there ts a.at) there u
-    still None is nay = none-becomes got there a.at ts heard (here None is)
-    still (Some (stream.dropped cause)) is nay = dropped-becomes got there a.at ts heard cause (here (Some (stream.dropped cause)) is)
+    still None is nay = none-becomes (unwrap_or noise value) there a.at ts heard (here None is)
+    still (Some (stream.dropped cause)) is nay = dropped-becomes (unwrap_or noise value) there a.at ts heard cause (here (Some (stream.dropped cause)) is)
     still (Some (stream.frame octets)) is nay = absurd (nay (stream.frame octets) refl tt)
     still (Some (stream.overlong head)) is nay = absurd (nay (stream.overlong head) refl tt)
 
@@ -98,7 +95,7 @@ module _ (how : Manner) (service : Service) (tei : ℕ) (c d : Config) (ranged_f
             }
         go (inr (inr x)) =
             let e = stream.frame x.frame_is in
-            let b = frame-becomes got there a.at ts heard e (here (Some e) x.gains) in
+            let b = frame-becomes (unwrap_or noise value) there a.at ts heard e (here (Some e) x.gains) in
             let whole : came a.at.card.card.config.n201 x.frame_is ≡ stream.frame x.frame_is = ap (λ (k : Config). came k.n201 x.frame_is) config ∙ x.whole in
             record {
               left = x.left;

@@ -1,9 +1,8 @@
 -- Before the call nothing is asked: no frame goes, no timer runs, and nothing is told but what noise makes.
-use Rattle.laws_time.proofs.Vocabulary.{Bool, Config, FrameEndpoint, IsFrame, IsInRange, List, None, OctetEndpoint, Option, Ran, Request, Service, Some, StationStands, Taken, TimedEndpoint, [], answered, ap, append-nil, arith, as_endpoint, at, comes_to, cond, drop, fall_due, false, fresh_line, fresh_link, gained, gave, gives-none, happens, hears, inl, inr, is_due, length, line_after}
-use Rattle.laws_time.proofs.Vocabulary.{line_answer, line_at, next, next_of, obeyed, octet_at, octet_orders, option_map, option_map_or, orders_in, port_of, refl, set, set-get_or, subst, sym, taken, takes_slot, true, unwrap_or, ℕ, ◌++◌, ◌+◌, ◌<◌, ◌∙◌, ◌∷◌, ◌≡◌, ◌≤◌}
+use Rattle.laws_time.proofs.Vocabulary.{Bool, Config, FrameEndpoint, IsFrame, IsInRange, List, None, OctetEndpoint, Option, Ran, Request, Service, Some, StationStands, TimedEndpoint, [], answered, ap, append-nil, arith, as_endpoint, at, comes_to, cond, drop, fall_due, false, fresh_link, gained, gave, gives-none, happens, hears, inl, inr, is_due, length, line_after}
+use Rattle.laws_time.proofs.Vocabulary.{line_answer, next, obeyed, octet_at, octet_orders, option_map, orders_in, port_of, refl, set-get_or, subst, sym, takes_slot, true, unwrap_or, ℕ, ◌++◌, ◌+◌, ◌<◌, ◌∙◌, ◌∷◌, ◌≡◌, ◌≤◌}
 use Rattle.model_bits.specs.Stream as stream
 use Rattle.model_line.specs.Event as line
-use Rattle.model_line.specs.Taken.{line_of}
 use Rattle.model_card.specs.Machine as machine
 use Rattle.model_card.specs.ports.Port as port
 use Rattle.laws_wire.specs.Call as call
@@ -19,18 +18,7 @@ use Rattle.laws_time.proofs.OfCircuit.Standing.{bare}
 -- A call for the next frame that gives none leaves the station.
 pub untaken : (s : FrameEndpoint) → wire.answered next s ≡ gave None → wire.happens next s ≡ s
 unfolding line_after line_answer takes_slot
-untaken s none = by (taken s.card.config (line_at s.line s.card)) refl
-  where
-    by : (o : Option Taken) → taken s.card.config (line_at s.line s.card) ≡ o → wire.happens next s ≡ s
-    by (Some t) e = absurd (cc (sym none ∙ ap (λ o. gave (option_map next_of o)) e))
-    by None e =
-        let card : (wire.happens next s).card ≡ s.card =
-        ap (λ o. record s.card { lines = set s.card.lines s.line (option_map_or line_of o (line_at s.line s.card)) }) e
-        ∙ ap (λ ls. record s.card { lines = ls }) (set-get_or s.card.lines s.line (fresh_line s.card.config)) in
-        let way : (wire.happens next s).way ≡ s.way = ap (λ a. s.way ++ wire.frames_by a) none ∙ append-nil s.way in
-        let granted : (wire.happens next s).granted ≡ s.granted = append-nil s.granted in
-        let told : (wire.happens next s).told ≡ s.told = append-nil s.told in
-        λ i. record { card = card i; line = s.line; way = way i; granted = granted i; told = told i }
+untaken s none = grind (arith, set-get_or, append-nil)
 
 -- A card that has just begun, with the TEI assigned, gives none.
 pub idle-answer : (service : Service) (c : Config) (ranged : IsInRange c) (number tei : ℕ) (within : number < c.lines) (few : tei ≤ 126) → wire.answered next (call.assigned c number tei) ≡ gave None

@@ -72,11 +72,7 @@ module _ (c : Config) (service : Service) (tei : ℕ) (ranged : IsInRange c) whe
       text-long = let short = given-short c.n201 (port_of s) (fine c service tei 0 ranged s h) in let long = given-long in omega (arith, short, long)
 
       is-not : (o : List ℕ) → (is_of kind c o ≡ true → ⊥) → is_of kind c o ≡ false
-      is-not o nay = by (is_of kind c o) refl
-        where
-          by : (b : Bool) → is_of kind c o ≡ b → b ≡ false
-          by true e = absurd (nay e)
-          by false e = refl
+      is-not o nay = grind arith
 
       -- those that are given in part, or not at all
       on-line : (fs : List (List ℕ)) → (out c.n201 (port_of s) (fine c service tei 0 ranged s h)).on_its_way ≡ fs → length fs ≤ 1 → All (λ o. is_of kind c o ≡ false) fs

@@ -4,6 +4,7 @@ use Rattle.laws_time.proofs.Vocabulary.{receives, refl, requests, runs_t200, sen
 unfoldable use Rattle.laws_wire.specs.Expiring.{how_often}
 use Rattle.laws_wire.specs.Losing.{IsOfLink}
 use Rattle.laws_wire.specs.Resting.{expiries_of, expiries}
+use Rattle.laws_time.proofs.OfCircuit.AckedCall.{turn}
 
 patient-append : (ds es : List StepAt) (w : Wire) → StayPatient ds w → StayPatient es (doing_all ds w) → StayPatient (ds ++ es) w
 unfolding StayPatient doing_all
@@ -11,13 +12,9 @@ patient-append [] es w first then = then
 patient-append (d ∷ ds) es w first then = (first.0, patient-append ds es (doing d w) first.1 then)
 
 -- The other end has the same done to it.
-swapped : StepAt → StepAt
-swapped (at_near act) = at_far act
-swapped (at_far act) = at_near act
-
 all-swapped : List StepAt → List StepAt
 all-swapped [] = []
-all-swapped (d ∷ ds) = swapped d ∷ all-swapped ds
+all-swapped (d ∷ ds) = turn d ∷ all-swapped ds
 
 -- What may be done: anything of a call; or data alone is asked for; or, besides, no frame is lost.
 pub data Manner : Type 0 where
@@ -76,13 +73,13 @@ expiries-append (d ∷ ds) es = let rest = expiries-append ds es in omega (arith
 
 module _ (service : Service) (tei : ℕ) where
   swap-near : (ds : List StepAt) (w : Wire) → how_often (near_asks service tei) (all-swapped ds) (turned w) ≡ how_often (far_asks service tei) ds w
-  unfolding how_often all-swapped swapped
+  unfolding how_often all-swapped
   swap-near [] w = refl
   swap-near (at_near act ∷ ds) w = ap (λ n. 0 + n) (swap-near ds (acting act w))
   swap-near (at_far act ∷ ds) w = ap (λ n. count (is_t200 act && runs_t200 service tei w.far) + n) (swap-near ds (turned (acting act (turned w))))
 
   swap-far : (ds : List StepAt) (w : Wire) → how_often (far_asks service tei) (all-swapped ds) (turned w) ≡ how_often (near_asks service tei) ds w
-  unfolding how_often all-swapped swapped
+  unfolding how_often all-swapped
   swap-far [] w = refl
   swap-far (at_near act ∷ ds) w = ap (λ n. count (is_t200 act && runs_t200 service tei w.near) + n) (swap-far ds (acting act w))
   swap-far (at_far act ∷ ds) w = ap (λ n. 0 + n) (swap-far ds (turned (acting act (turned w))))
@@ -109,13 +106,13 @@ gifts-append [] es w = omega arith
 gifts-append (d ∷ ds) es w = let rest = gifts-append ds es (doing d w) in omega (arith, rest)
 
 swap-gifts : (ds : List StepAt) (w : Wire) → gifts (all-swapped ds) (turned w) ≡ gifts ds w
-unfolding gifts all-swapped swapped
+unfolding gifts all-swapped
 swap-gifts [] w = refl
 swap-gifts (at_near act ∷ ds) w = ap (λ n. count (is_gift_of act w) + n) (swap-gifts ds (acting act w))
 swap-gifts (at_far act ∷ ds) w = ap (λ n. count (is_gift_of act (turned w)) + n) (swap-gifts ds (turned (acting act (turned w))))
 
 swap-expiries : (ds : List StepAt) → expiries (all-swapped ds) ≡ expiries ds
-unfolding expiries all-swapped swapped
+unfolding expiries all-swapped
 swap-expiries [] = refl
 swap-expiries (at_near act ∷ ds) = ap (λ n. expiries_of act + n) (swap-expiries ds)
 swap-expiries (at_far act ∷ ds) = ap (λ n. expiries_of act + n) (swap-expiries ds)
@@ -180,7 +177,7 @@ module _ (how : Manner) (service : Service) (tei : ℕ) where
   }
 
   swap-done : (ds : List StepAt) → All (IsDone how service tei) ds → All (IsDone how service tei) (all-swapped ds)
-  unfolding all-swapped swapped
+  unfolding all-swapped
   swap-done [] all = All-nil (IsDone how service tei)
   swap-done (at_near act ∷ ds) all =
       All-cons (IsDone how service tei) (at_far act) (all-swapped ds) (All-head (IsDone how service tei) (at_near act) ds all) (swap-done ds (All-tail (IsDone how service tei) (at_near act) ds all))
@@ -188,13 +185,13 @@ module _ (how : Manner) (service : Service) (tei : ℕ) where
       All-cons (IsDone how service tei) (at_near act) (all-swapped ds) (All-head (IsDone how service tei) (at_far act) ds all) (swap-done ds (All-tail (IsDone how service tei) (at_far act) ds all))
 
   swap-patient : (ds : List StepAt) (w : Wire) → StayPatient ds w → StayPatient (all-swapped ds) (turned w)
-  unfolding StayPatient all-swapped swapped
+  unfolding StayPatient all-swapped
   swap-patient [] w h = tt
   swap-patient (at_near act ∷ ds) w h = (h.0, swap-patient ds (acting act w) h.1)
   swap-patient (at_far act ∷ ds) w h = (h.0, swap-patient ds (turned (acting act (turned w))) h.1)
 
   swap-leads : (ds : List StepAt) (w : Wire) → doing_all (all-swapped ds) (turned w) ≡ turned (doing_all ds w)
-  unfolding doing_all all-swapped swapped
+  unfolding doing_all all-swapped
   swap-leads [] w = refl
   swap-leads (at_near act ∷ ds) w = swap-leads ds (acting act w)
   swap-leads (at_far act ∷ ds) w = swap-leads ds (turned (acting act (turned w)))

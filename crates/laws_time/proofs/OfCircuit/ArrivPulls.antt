@@ -1,5 +1,5 @@
 -- A pull at an end and at its station: a frame is put on the line, or none; and what is heard leaves what was put there.
-use Rattle.laws_time.proofs.Vocabulary.{Bool, Config, Fits, FrameEndpoint, IsInRange, LineTold, List, None, Option, Port, Ran, Service, Some, TimedEndpoint, [], ap, arith, as_endpoint, false, frames_among, given_in, happens, heard-way, hears, is_any, is_due, item_of, length, length-append, next_of_card, port-after, port_of, pull-between, pull-put, refl, sends, true, unwrap_or, within-ports, ℕ}
+use Rattle.laws_time.proofs.Vocabulary.{Bool, Config, Fits, FrameEndpoint, IsInRange, LineTold, List, Option, Port, Ran, Service, TimedEndpoint, [], ap, arith, as_endpoint, false, frames_among, given_in, happens, heard-way, hears, is_any, is_due, item_of, length, length-append, next_of_card, port-after, port_of, pull-between, pull-put, refl, sends, true, unwrap_or, within-ports, ℕ}
 use Rattle.laws_time.proofs.Vocabulary.{◌+◌, ◌∙◌, ◌∷◌, ◌≡◌}
 use Rattle.model_line.specs.Event as line
 use Rattle.model_card.specs.ports.Port as port
@@ -11,10 +11,7 @@ use Rattle.laws_time.proofs.OfCircuit.ArrivWay.{Going, pulled-way}
 
 -- A frame is put on the line if one is given.
 one-put : (a : line.Answer) → length (frames_among (item_of (given_in a) ∷ [])) ≡ count (is_any (wire.frames_by a))
-one-put (line.gave None) = refl
-one-put (line.gave (Some f)) = refl
-one-put (line.told t) = refl
-one-put (line.refused why) = refl
+one-put a = grind arith
 
 -- A pull, at an end and at its station.
 module _ (how : Manner) (service : Service) (tei : ℕ) (c : Config) (ranged : IsInRange c) (a : TimedEndpoint) (ran : Ran c a.at) (there : List (List ℕ)) (goes : Going c.n201 (port_of a.at) a.at.way there)

@@ -7,7 +7,7 @@ use Rattle.laws_wire.specs.Wire as wire
 use Rattle.laws_time.proofs.OfCircuit.Fallen.{is_t200, is_t203, fallen_in, near_fallen, far_fallen}
 use Rattle.laws_time.proofs.OfCircuit.Acts.{Goes, asks-goes}
 use Rattle.laws_time.proofs.OfCircuit.ArrivAs.{station, heard_of, asked-becomes}
-use Rattle.laws_time.proofs.OfCircuit.ArrivBeat.{Same, Led, put_at, near-stood, beat-on, NearStood, ago, far_end, far-stands, far-finals}
+use Rattle.laws_time.proofs.OfCircuit.ArrivBeat.{IsBoth, Same, Led, put_at, near-stood, beat-on, NearStood, ago, far_end, far-stands, far-finals}
 use Rattle.laws_time.proofs.OfCircuit.ArrivHeard.{IsKeptAt}
 use Rattle.laws_time.proofs.OfCircuit.ArrivFair.{IsFair}
 use Rattle.laws_time.proofs.OfCircuit.ArrivPath.{Manner, of_call, of_data, of_whole, MayAsk, Path, path-as, path-none, path-both, path-on}
@@ -15,8 +15,7 @@ use Rattle.laws_time.proofs.OfCircuit.ArrivSide.{fair-happens, fair-asks, fair-f
 use Rattle.laws_time.proofs.OfCircuit.ArrivWay.{Going}
 use Rattle.laws_time.proofs.OfCircuit.Ends.{Leads, at_time}
 use Rattle.laws_time.proofs.OfCircuit.InCallWalk.{event-walks}
-use Rattle.laws_time.proofs.OfCircuit.InTime.{PairNow, near_card, far_card}
-use Rattle.laws_time.proofs.OfCircuit.LongEnough.{by_now, near-in-all, pair-then}
+use Rattle.laws_time.proofs.OfCircuit.LongEnough.{near-in-all, pair-then, Pair}
 
 -- What is told later leaves what was told.
 fair-hears : (noise : Option ℕ) (way : List ℕ) (a : TimedEndpoint) → IsFair (hears noise way a).at.told → IsFair a.at.told
@@ -78,9 +77,6 @@ call-kept l [] w = tt
 call-kept l (b ∷ bs) w = (inl tt, inl tt, call-kept l bs (beat l.rate w b))
 
 module _ (l : Line) (fit : IsFit l) where
-  abbrev pub SameNow : Clocked → Wire → Type 0
-  SameNow w f = Same l fit.some fit.call.near.0 fit.call.far.0 fit.call.opposite.0 fit.call.opposite.1 fit.t200 (near_card l fit) (far_card l fit) w f
-
   of-call : (r : Request) → IsAsked l r → IsOfLink l.service l.tei r
   of-call (Data s t contents) is = is
   of-call (SetBusy s t) is = is
@@ -92,9 +88,6 @@ module _ (l : Line) (fit : IsFit l) where
   all-of-link (r ∷ rs) all = All-cons (IsOfLink l.service l.tei) r rs (of-call r (All-head (IsAsked l) r rs all)) (all-of-link rs (All-tail (IsAsked l) r rs all))
 
 module _ (how : Manner) (l : Line) (fit : IsFit l) where
-  abbrev Both : Request → Type 0
-  Both r = IsOfLink l.service l.tei r × MayAsk how l.service l.tei r
-
   by-call : (r : Request) → IsAsked l r → IsOfLink l.service l.tei r × MayAsk of_call l.service l.tei r
   by-call (Data s t contents) is = (is, (is.0, is.1))
   by-call (SetBusy s t) is = (is, is)
@@ -110,9 +103,9 @@ module _ (how : Manner) (l : Line) (fit : IsFit l) where
   both-of of_data r is = by-data r is
   both-of of_whole r is = by-data r is
 
-  all-both : (rs : List Request) → All (MayBeAsked how l) rs → All Both rs
-  all-both [] all = All-nil Both
-  all-both (r ∷ rs) all = All-cons Both r rs (both-of how r (All-head (MayBeAsked how l) r rs all)) (all-both rs (All-tail (MayBeAsked how l) r rs all))
+  all-both : (rs : List Request) → All (MayBeAsked how l) rs → All (IsBoth how l) rs
+  all-both [] all = All-nil (IsBoth how l)
+  all-both (r ∷ rs) all = All-cons (IsBoth how l) r rs (both-of how r (All-head (MayBeAsked how l) r rs all)) (all-both rs (All-tail (MayBeAsked how l) r rs all))
 
   its-of-link : (rs : List Request) → All (MayBeAsked how l) rs → All (IsOfLink l.service l.tei) rs
   its-of-link [] all = All-nil (IsOfLink l.service l.tei)
@@ -125,12 +118,9 @@ module _ (how : Manner) (l : Line) (fit : IsFit l) where
     pub n : ℕ
     pub puts : put_at w ≡ first + n
     pub path : Path how l.service l.tei i j k n start f
-    pub same : SameNow l fit w f
+    pub same : Same l w f
 
-  abbrev LedTo : ℕ → ℕ → ℕ → Clocked → Beat → FrameEndpoint → FrameEndpoint → Type 0
-  LedTo i j k w b x y = Led how l fit.some fit.call.near.0 fit.call.far.0 fit.call.opposite.0 fit.call.opposite.1 fit.t200 (near_card l fit) (far_card l fit) refl refl i j k w b x y
-
-  led-on : (start : Wire) (w : Clocked) (b : Beat) (x y : FrameEndpoint) → {i j k i' j' k' first n : ℕ} → put_at w ≡ first + n → Path how l.service l.tei i j k n start (record { near = x; far = y }) → LedTo i' j' k' w b x y
+  led-on : (start : Wire) (w : Clocked) (b : Beat) (x y : FrameEndpoint) → {i j k i' j' k' first n : ℕ} → put_at w ≡ first + n → Path how l.service l.tei i j k n start (record { near = x; far = y }) → Led how l i' j' k' w b x y
       → ReachedBy (i + i') (j + j') (k + k') first start (beat l.rate w b)
   led-on start w b x y {i} {j} {k} {i'} {j'} {k'} {first} {n} puts path led = record { f = led.f; n = n + led.n; puts = (let more = led.puts in omega (arith, puts, more)); path = path-both how l.service l.tei start (record { near = x; far = y }) led.f path led.path; same = led.same }
 
@@ -141,12 +131,12 @@ module _ (how : Manner) (l : Line) (fit : IsFit l) where
   abbrev Far : (Timer → Bool) → Clocked → Beat → ℕ
   Far of w b = fallen_in of (w.beats / l.rate) b.far_asks w.far
 
-  one-beat : (start : Wire) (w : Clocked) (b : Beat) → {i j k first : ℕ} → PairNow l fit w → AreAskedSo how l b → AreClear l (b ∷ []) w → AreKept how l (b ∷ []) w → IsFairBoth (beat l.rate w b) → ReachedBy i j k first start w
+  one-beat : (start : Wire) (w : Clocked) (b : Beat) → {i j k first : ℕ} → Pair l fit w → AreAskedSo how l b → AreClear l (b ∷ []) w → AreKept how l (b ∷ []) w → IsFairBoth (beat l.rate w b) → ReachedBy i j k first start w
       → ReachedBy (i + fallen_in is_t200 (w.beats / l.rate) b.near_asks w.near) (j + fallen_in is_t200 (w.beats / l.rate) b.far_asks w.far)
       (k + (fallen_in is_t203 (w.beats / l.rate) b.near_asks w.near + fallen_in is_t203 (w.beats / l.rate) b.far_asks w.far)) first start (beat l.rate w b)
   unfolding AreClear AreKept
   one-beat start w b p are_asked clear kept fair h =
-      let c = fit.call in let s = h.same in
+      let s = h.same in
       let talk : IsTalk l b = (its-of-link b.near_asks are_asked.0, its-of-link b.far_asks are_asked.1) in
       let now = fair-gone l.rate b w fair in
       let x = station s.there s.ts w.near.at in
@@ -154,28 +144,25 @@ module _ (how : Manner) (l : Line) (fit : IsFit l) where
       led-on start w b x y h.puts
       (path-on how l.service l.tei start h.f (record { near = x; far = y }) h.path
       (path-none how l.service l.tei h.f (record { near = x; far = y }) (λ i. record { near = s.near_is i; far = s.far_is i })))
-      (beat-on how l fit.some c.near.0 c.far.0 c.opposite.0 c.opposite.1 fit.t200 (near_card l fit) (far_card l fit) refl refl w p b talk s.back s.comes s.us s.far_heard
-      p.S (at_time (w.beats / l.rate) w.near) x
-      (near-stood how l fit.some c.near.0 c.far.0 c.opposite.0 c.opposite.1 fit.t200 (near_card l fit) (far_card l fit) refl refl w p b talk s.back s.comes s.us s.far_heard s.there s.goes s.ts s.near_heard)
+      (beat-on how l fit w p b talk s.back s.comes s.us s.far_heard p.S (at_time (w.beats / l.rate) w.near) x
+      (near-stood how l fit w p w.far p.S2 p.far_ok p.far_counts.given p.far_counts.way s.back s.comes s.us s.there s.goes s.ts s.near_heard)
       b.near_asks refl (all-both b.near_asks are_asked.0) (all-both b.far_asks are_asked.1) now.0 now.1 clear.0 clear.1 kept.0 kept.1)
 
   reached-as : (start : Wire) (w : Clocked) (first i j k i' j' k' : ℕ) → i ≡ i' → j ≡ j' → k ≡ k' → ReachedBy i j k first start w → ReachedBy i' j' k' first start w
   reached-as start w first i j k i' j' k' x y z h = record { f = h.f; n = h.n; puts = h.puts; path = path-as how l.service l.tei i j k h.n i' j' k' h.n start h.f x y z refl h.path; same = h.same }
 
-  pub beats-by : (start : Wire) (bs : List Beat) (w : Clocked) → {i j k first : ℕ} → PairNow l fit w → All (AreAskedSo how l) bs → AreClear l bs w → AreKept how l bs w → IsFairBoth (after l.rate bs w) → ReachedBy i j k first start w
+  pub beats-by : (start : Wire) (bs : List Beat) (w : Clocked) → {i j k first : ℕ} → Pair l fit w → All (AreAskedSo how l) bs → AreClear l bs w → AreKept how l bs w → IsFairBoth (after l.rate bs w) → ReachedBy i j k first start w
       → ReachedBy (i + near_fallen is_t200 l.rate bs w) (j + far_fallen is_t200 l.rate bs w) (k + (near_fallen is_t203 l.rate bs w + far_fallen is_t203 l.rate bs w)) first start (after l.rate bs w)
   unfolding AreClear AreKept near_fallen far_fallen
   beats-by start [] w {i} {j} {k} {first} p all clear kept fair h = reached-as start w first i j k (i + 0) (j + 0) (k + (0 + 0)) (omega arith) (omega arith) (omega arith) h
   beats-by start (b ∷ bs) w {i} {j} {k} {first} p all clear kept fair h =
-      let c = fit.call in
       let now = All-head (AreAskedSo how l) b bs all in
       let talk : IsTalk l b = (its-of-link b.near_asks now.0, its-of-link b.far_asks now.1) in
       let u = beat l.rate w b in
       let a = Near is_t200 w b in let d = Far is_t200 w b in let e = Near is_t203 w b in let g = Far is_t203 w b in
       let a' = near_fallen is_t200 l.rate bs u in let d' = far_fallen is_t200 l.rate bs u in let e' = near_fallen is_t203 l.rate bs u in let g' = far_fallen is_t203 l.rate bs u in
       reached-as start (after l.rate bs u) first ((i + a) + a') ((j + d) + d') ((k + (e + g)) + (e' + g')) (i + (a + a')) (j + (d + d')) (k + ((e + e') + (g + g'))) (omega arith) (omega arith) (omega arith)
-      (beats-by start bs u
-      (pair-then l fit.some c.near.0 c.far.0 c.opposite.0 c.opposite.1 fit.t200 (near_card l fit) (far_card l fit) w p b talk clear.0 clear.1)
+      (beats-by start bs u (pair-then l fit w p b talk clear.0 clear.1)
       (All-tail (AreAskedSo how l) b bs all) clear.2 kept.2 fair
       (one-beat start w b p now (clear.0, clear.1, tt) (kept.0, kept.1, tt) (fair-all l.rate bs u fair) h))
 
@@ -189,13 +176,13 @@ module _ (how : Manner) (l : Line) (fit : IsFit l) where
     pub puts : put_at w ≡ first + n
     pub f : Wire
     pub path : Path how l.service l.tei i j k n start f
-    pub same : SameNow l fit w f
+    pub same : Same l w f
 
   pub as-some : (start : Wire) (w : Clocked) → {i j k first : ℕ} → ReachedBy i j k first start w → ReachedSome start w
   as-some start w {i} {j} {k} {first} h = record { i = i; j = j; k = k; first = first; n = h.n; puts = h.puts; f = h.f; path = h.path; same = h.same }
 
   -- The first beat, in which layer 3 asks for the establishment first of all.
-  module _ (w : Clocked) (p : PairNow l fit w) (goes : Going l.near.n201 (port_of w.near.at) w.near.at.way []) (comes : Going l.far.n201 (port_of w.far.at) w.far.at.way [])
+  module _ (w : Clocked) (p : Pair l fit w) (goes : Going l.near.n201 (port_of w.near.at) w.near.at.way []) (comes : Going l.far.n201 (port_of w.far.at) w.far.at.way [])
       (ts us : List LineTold) (near_heard : heard_of ts ≡ heard_of w.near.at.told) (far_heard : heard_of us ≡ heard_of w.far.at.told) (b : Beat) (are_asked : AreAskedSo how l b) where
     abbrev pub start : Wire
     start = record { near = wire.happens (line.request (Establish l.service l.tei)) (station [] ts w.near.at); far = station [] us w.far.at }
@@ -209,65 +196,50 @@ module _ (how : Manner) (l : Line) (fit : IsFit l) where
     abbrev a : TimedEndpoint
     a = at_time (w.beats / l.rate) w.near
 
-    abbrev x : FrameEndpoint
-    x = station [] ts w.near.at
-
     abbrev y : FrameEndpoint
     y = station [] us w.far.at
 
     abbrev StoodNow : ℕ → TimedEndpoint → FrameEndpoint → Type 0
-    StoodNow S v z =
-        NearStood how l fit.some fit.call.near.0 fit.call.far.0 fit.call.opposite.0 fit.call.opposite.1 fit.t200 (near_card l fit) (far_card l fit) refl refl w p (calls l b) first-talk [] comes us far_heard S v z
+    StoodNow S v z = NearStood how l fit w p w.far p.S2 p.far_ok p.far_counts.given p.far_counts.way [] comes us S v z
 
-    stood : StoodNow p.S (at_time (w.beats / l.rate) w.near) x
-    stood =
-        near-stood how l fit.some fit.call.near.0 fit.call.far.0 fit.call.opposite.0 fit.call.opposite.1 fit.t200 (near_card l fit) (far_card l fit) refl refl w p (calls l b) first-talk [] comes us far_heard
-        [] goes ts near_heard
+    stood : StoodNow p.S (at_time (w.beats / l.rate) w.near) (station [] ts w.near.at)
+    stood = near-stood how l fit w p w.far p.S2 p.far_ok p.far_counts.given p.far_counts.way [] comes us [] goes ts near_heard
 
-    abbrev most : ℕ
-    most = by_now l fit.some fit.call.near.0 fit.call.far.0 fit.call.opposite.0 fit.call.opposite.1 fit.t200 (near_card l fit) (far_card l fit) p.S2
+    g : Goes l.near l.service l.tei 0 fit.call.near.0 l.lengths l.rate p.S p.M a (asks a ask)
+    g = asks-goes l.near l.service l.tei 0 fit.call.near.0 l.lengths l.rate a p.S p.M stood.ok stood.soon ask (refl, refl)
 
-    g : Goes l.near l.service l.tei 0 fit.call.near.0 l.lengths l.rate p.S most a (asks a ask)
-    g = asks-goes l.near l.service l.tei 0 fit.call.near.0 l.lengths l.rate a p.S most stood.ok stood.soon ask (refl, refl)
-
-    then : StoodNow g.S' (asks a ask) (wire.happens (line.request ask) x)
+    then : StoodNow g.S' (asks a ask) (wire.happens (line.request ask) (station [] ts w.near.at))
     then =
-        let t = near_card l fit in let u = far_card l fit in let c = fit.call in
-        let walk = event-walks l.service l.tei l.near c.near.0 l.lengths l.rate (port.request ask) a p.S most stood.ok tt in
+        let c = fit.call in
+        let walk = event-walks l.service l.tei l.near c.near.0 l.lengths l.rate (port.request ask) a p.S p.M stood.ok tt in
         let leads : Leads (card_of a) (card_of (asks a ask)) = record { steps = walk.steps; leads = walk.leads; prompt = walk.prompt } in
         stood-then how l.service l.tei l.near c.near.0 l.far l.lengths l.rate l.way (answered_in l.near l.far l.way) w.beats (w.beats / l.rate)
-        (ago how l fit.some c.near.0 c.far.0 c.opposite.0 c.opposite.1 fit.t200 t u refl refl w p (calls l b) first-talk)
-        (near-in-all l fit.some c.near.0 c.far.0 c.opposite.0 c.opposite.1 fit.t200 t u) p.S most y
-        (far_end how l fit.some c.near.0 c.far.0 c.opposite.0 c.opposite.1 fit.t200 t u refl refl w p (calls l b) first-talk [] comes us far_heard)
-        (far-stands how l fit.some c.near.0 c.far.0 c.opposite.0 c.opposite.1 fit.t200 t u refl refl w p (calls l b) first-talk [] comes us far_heard)
-        (far-finals how l fit.some c.near.0 c.far.0 c.opposite.0 c.opposite.1 fit.t200 t u refl refl w p (calls l b) first-talk [] comes us far_heard)
-        p.S a (asks a ask) x stood (line.request ask) g leads (asked-becomes ask stood.there a.at stood.ts stood.heard)
+        (ago how l fit w p) (near-in-all l fit) p.S p.M y (far_end how l fit w p w.far p.S2 p.far_ok p.far_counts.given p.far_counts.way [] comes us)
+        (far-stands how l fit w p w.far p.S2 p.far_ok p.far_counts.given p.far_counts.way [] comes us) (far-finals how l fit w p w.far p.S2 p.far_ok p.far_counts.given p.far_counts.way [] comes us)
+        p.S a (asks a ask) (station [] ts w.near.at) stood (line.request ask) g leads (asked-becomes ask stood.there a.at stood.ts stood.heard)
 
     first-beat : AreClear l (calls l b ∷ []) w → AreKept how l (calls l b ∷ []) w → IsFairBoth (beat l.rate w (calls l b)) → ReachedSome start (beat l.rate w (calls l b))
     unfolding AreClear AreKept
     first-beat clear kept fair =
-        let c = fit.call in
         let now = fair-gone l.rate (calls l b) w fair in
         let none_yet : put_at w ≡ put_at w + 0 = omega arith in
-        as-some start (beat l.rate w (calls l b)) (led-on start w (calls l b) (wire.happens (line.request ask) x) y none_yet (path-none how l.service l.tei start start refl)
-        (beat-on how l fit.some c.near.0 c.far.0 c.opposite.0 c.opposite.1 fit.t200 (near_card l fit) (far_card l fit) refl refl w p (calls l b) first-talk [] comes us far_heard
-        g.S' (asks a ask) (wire.happens (line.request ask) x) then b.near_asks refl (all-both b.near_asks are_asked.0) (all-both b.far_asks are_asked.1) now.0 now.1 clear.0 clear.1 kept.0 kept.1))
+        as-some start (beat l.rate w (calls l b)) (led-on start w (calls l b) (wire.happens (line.request ask) (station [] ts w.near.at)) y none_yet (path-none how l.service l.tei start start refl)
+        (beat-on how l fit w p (calls l b) first-talk [] comes us far_heard
+        g.S' (asks a ask) (wire.happens (line.request ask) (station [] ts w.near.at)) then b.near_asks refl (all-both b.near_asks are_asked.0) (all-both b.far_asks are_asked.1) now.0 now.1 clear.0 clear.1 kept.0 kept.1))
 
     pub reached-by-from : (bs : List Beat) → All (AreAskedSo how l) bs → AreClear l (calls l b ∷ bs) w → AreKept how l (calls l b ∷ bs) w → IsFairBoth (after l.rate (calls l b ∷ bs) w) → ReachedSome start (after l.rate (calls l b ∷ bs) w)
     unfolding AreClear AreKept
     reached-by-from bs all clear kept fair =
-        let c = fit.call in
         let u = beat l.rate w (calls l b) in
         let h = first-beat (clear.0, clear.1, tt) (kept.0, kept.1, tt) (fair-all l.rate bs u fair) in
         as-some start (after l.rate bs u) (beats-by start bs u
-        (pair-then l fit.some c.near.0 c.far.0 c.opposite.0 c.opposite.1 fit.t200 (near_card l fit) (far_card l fit) w p (calls l b) first-talk clear.0 clear.1)
-        all clear.2 kept.2 fair (record { f = h.f; n = h.n; puts = h.puts; path = h.path; same = h.same }))
+        (pair-then l fit w p (calls l b) first-talk clear.0 clear.1) all clear.2 kept.2 fair (record { f = h.f; n = h.n; puts = h.puts; path = h.path; same = h.same }))
 
 -- Anything may be done.
 module _ (l : Line) (fit : IsFit l) where
   abbrev pub Reached : Wire → Clocked → Type 0
   Reached start w = ReachedSome of_call l fit start w
 
-  pub all-beats : (start : Wire) (bs : List Beat) (w : Clocked) → PairNow l fit w → All (AreAsked l) bs → AreClear l bs w → IsFairBoth (after l.rate bs w) → Reached start w → Reached start (after l.rate bs w)
+  pub all-beats : (start : Wire) (bs : List Beat) (w : Clocked) → Pair l fit w → All (AreAsked l) bs → AreClear l bs w → IsFairBoth (after l.rate bs w) → Reached start w → Reached start (after l.rate bs w)
   all-beats start bs w p all clear fair h =
       as-some of_call l fit start (after l.rate bs w) (beats-by of_call l fit start bs w p all clear (call-kept l bs w) fair (record { f = h.f; n = h.n; puts = h.puts; path = h.path; same = h.same }))

@@ -1,14 +1,14 @@
 -- What layer 3 asks at an end of the clocked circuit, and what falls due there, is done at the station for which it stands, where T200 is
 -- long enough.
-use Rattle.laws_time.proofs.Vocabulary.{All, All-cons, All-head, All-nil, All-tail, Bool, Config, Control, ControlFrame, Expiry, FrameEndpoint, HasNo, IsInRange, IsLongEnough, IsOfLink, Lengths, LineTold, LinkEndpoint, List, None, Option, Parts, Request, Service, Some, StationStands, TimedEndpoint, Timer, Wire, [], ap, arith, asks, awaits_in, bit_of, card_of, due, expires, fall_due, falls}
-use Rattle.laws_time.proofs.Vocabulary.{false, fold, fresh, happens, is_final, is_poll, is_t200, is_timer_of, is_waiting, length, open-here, option_map_or, port_of, refl, requests, runs-is, runs_t200, state-is, state_number, subst, suc, sym, true, without_first, zero, ℕ, ◌&&◌, ◌*◌, ◌+◌, ◌<◌, ◌==◌, ◌||◌, ◌∙◌, ◌∷◌, ◌≡◌, ◌≤◌}
+use Rattle.laws_time.proofs.Vocabulary.{All, All-cons, All-head, All-nil, All-tail, Bool, Config, Control, ControlFrame, Expiry, FrameEndpoint, HasNo, IsInRange, IsLongEnough, IsOfLink, Lengths, LineTold, LinkEndpoint, List, None, Option, Parts, Request, Service, Some, StationStands, TimedEndpoint, Timer, Wire, [], ap, arith, asks, awaits_in, card_of, due, expires, fall_due, falls, false}
+use Rattle.laws_time.proofs.Vocabulary.{fold, fresh, happens, is_final, is_poll, is_t200, is_waiting, length, open-here, option_map_or, port_of, refl, requests, runs-is, runs_t200, state-is, state_number, subst, suc, sym, true, without_first, zero, ℕ, ◌&&◌, ◌*◌, ◌+◌, ◌<◌, ◌∙◌, ◌∷◌, ◌≡◌, ◌≤◌}
 use Rattle.lapd_frame.specs.declared.timers.Timer.TheVariants as timers
 use Rattle.model_line.specs.Event as line
 use Rattle.model_card.specs.ports.Port as port
 use Rattle.laws_wire.specs.Wire as wire
 use Rattle.laws_time.proofs.OfCircuit.Fallen as seldom
 unfoldable use Rattle.laws_time.proofs.OfCircuit.Fallen.{fallen}
-use Rattle.laws_time.proofs.OfCircuit.Acts.{Goes, asks-goes, fell-goes, soon-then, own-same}
+use Rattle.laws_time.proofs.OfCircuit.Acts.{Goes, asks-goes, fell-goes, soon-then}
 use Rattle.laws_time.proofs.OfCircuit.ArrivAs.{station, heard_of, Becomes, asked-becomes, expired-becomes}
 use Rattle.laws_time.proofs.OfCircuit.ArrivFair.{IsFair, fair-parts, fair-may}
 use Rattle.laws_time.proofs.OfCircuit.ArrivOpen.{parts, are-own, stands, has-none}
@@ -16,7 +16,7 @@ use Rattle.laws_time.proofs.OfCircuit.ArrivPath.{Manner, MayAsk, Path, count, pa
 use Rattle.laws_time.proofs.OfCircuit.ArrivWay.{Going, going-with, before-long}
 use Rattle.laws_time.proofs.OfCircuit.Ends.{Leads, leads-both, first-of, timed}
 use Rattle.laws_time.proofs.OfCircuit.InCallWalk.{Walks, event-walks, due-walks}
-use Rattle.laws_time.proofs.OfCircuit.Kinds.{asks as asks_frame, is_command}
+use Rattle.laws_time.proofs.OfCircuit.Kinds.{asks as asks_frame}
 use Rattle.laws_time.proofs.OfCircuit.LongEnough.{due-is}
 use Rattle.laws_time.proofs.OfCircuit.Open.{half}
 use Rattle.laws_time.proofs.OfCircuit.Orders.{RunsOurs}
@@ -24,6 +24,7 @@ use Rattle.laws_time.proofs.OfCircuit.ArrivRuns.{link-runs}
 use Rattle.laws_time.proofs.OfCircuit.Standing.{bare, expired-reply}
 use Rattle.laws_time.proofs.OfCircuit.Under.{EndOk}
 use Rattle.laws_time.proofs.OfCircuit.Keeping.{falls-keep}
+use Rattle.laws_time.proofs.Moments.{own-timer}
 
 -- What is told later leaves what was told.
 pub fair-happens : (e : port.Event) (a : TimedEndpoint) → IsFair (happens e a).at.told → IsFair a.at.told
@@ -39,12 +40,7 @@ fair-falls k a =
 
 -- A command with P=1 asks.
 poll-asks : (command : Bool) (control : Control) → asks_frame command control ≡ false → is_poll command control ≡ false
-poll-asks command control none = by command (bit_of control) (is_command control) none
-  where
-    by : (a b x : Bool) → (b && (a || x)) ≡ false → (a && b) ≡ false
-    by true true x is = is
-    by true false x is = refl
-    by false b x is = refl
+poll-asks command control none = grind arith
 
 no-polls : (n : LinkEndpoint) → HasNo asks_frame n → HasNo is_poll n
 no-polls n h = record {
@@ -66,11 +62,7 @@ no-polls n h = record {
 
 -- The states that await an answer.
 same-waits : (k : ℕ) → awaits_in (Some k) ≡ is_waiting k
-same-waits k = by (k == 5) (k == 6) (k == 8)
-  where
-    by : (a b x : Bool) → ((a || b) || x) ≡ (a || (b || x))
-    by true b x = refl
-    by false b x = refl
+same-waits k = grind arith
 
 module _ (how : Manner) (service : Service) (tei : ℕ) (c : Config) (ranged : IsInRange c) (d : Config) (lengths : Lengths) (rate transit total n moment : ℕ)
     (ago : (S m : ℕ) → S + lengths.t200 * rate ≤ (m + 1) * rate → m ≤ moment → S + total ≤ n)
@@ -208,16 +200,10 @@ module _ (how : Manner) (service : Service) (tei : ℕ) (c : Config) (ranged : I
         fell-with (timers.T200 service tei) 1 0 (ap count (runs-so same)) refl same (refl, refl)
         (long same, fair-may service tei 0 c X its X-stands (fair-parts a.at.told (wire.told_by (wire.answered (line.expiry (timers.T200 service tei)) X)) (subst IsFair told fair)).1)
 
-    by-timer : (timer : Timer) → e.timer ≡ timer → is_timer_of service tei timer ≡ true → IsFair (falls_so timer).at.told → After (count (seldom.is_t200 timer)) (count (seldom.is_t203 timer)) x (falls_so timer)
-    by-timer (timers.T200 of by) same ours fair =
-        let own = own-same service tei of by ours in
-        subst (λ t. IsFair (falls_so t).at.told → After (count (seldom.is_t200 t)) (count (seldom.is_t203 t)) x (falls_so t)) (λ i. timers.T200 (sym own.0 i) (sym own.1 i)) (t200-fell (same ∙ (λ i. timers.T200 (own.0 i) (own.1 i)))) fair
-    by-timer (timers.T203 of by) same ours fair = let own = own-same service tei of by ours in fell-with (timers.T203 of by) 0 1 refl refl same own tt
-    by-timer timers.T201 same ours fair = absurd (cc ours)
-    by-timer timers.T202 same ours fair = absurd (cc ours)
-
     pub falls-one : IsFair (falls a e).at.told → After (count (seldom.is_t200 e.timer)) (count (seldom.is_t203 e.timer)) x (falls a e)
-    falls-one = by-timer e.timer refl (first-of (RunsOurs service tei) a.clock.running a.clock.now e h.ok.but.ours falls_now)
+    falls-one =
+        own-timer service tei (λ timer. e.timer ≡ timer → IsFair (falls_so timer).at.told → After (count (seldom.is_t200 timer)) (count (seldom.is_t203 timer)) x (falls_so timer)) t200-fell
+        (λ same fair. fell-with (timers.T203 service tei) 0 1 refl refl same (refl, refl) tt) e.timer (first-of (RunsOurs service tei) a.clock.running a.clock.now e h.ok.but.ours falls_now) refl
 
   fell-then : (k S : ℕ) (a : TimedEndpoint) (x : FrameEndpoint) → Stood S a x
       → ((S : ℕ) (u : TimedEndpoint) (x : FrameEndpoint) → Stood S u x → IsFair (fall_due k u).at.told → After (fallen seldom.is_t200 k u) (fallen seldom.is_t203 k u) x (fall_due k u))

@@ -1,7 +1,7 @@
 -- What is told in a call with losses on a wire: which errors, and all data whose sender keeps nothing any more.
-use Rattle.laws_time.proofs.Vocabulary.{All, All-append, All-cons, All-head, All-nil, All-tail, Bool, Called, CanCall, Config, ErrorCode, F, Face, FrameEndpoint as Endpoint, Held, IsBeginningOf, IsFullTalk, IsInRangeTerms as IsInRange, LineTold, Link, LinkEndpoint, List, None, Ok, Option, Room, Service, Some, StationStands, StayPatient, StepAt, Terms, ToldSo, Wire, [], all-left, ap, append-nil}
+use Rattle.laws_time.proofs.Vocabulary.{All, All-append, All-cons, All-head, All-nil, All-tail, Bool, Called, CanCall, Config, ErrorCode, F, Face, FrameEndpoint as Endpoint, Held, IsBeginningOf, IsFullTalk, IsInRangeTerms as IsInRange, LineTold, Link, LinkEndpoint, List, Ok, Room, Service, StationStands, StayPatient, StepAt, Terms, ToldSo, Wire, [], all-left, ap, append-nil}
 use Rattle.laws_time.proofs.Vocabulary.{arith, at_far, at_near, bad_tei, behind, calling, cond, confirmed, data_told, doing, drop, end, error_f, expires, false, first_that_holds, flat_map, flat_map-append, for_layer_3, free_slots, front-none, indicated, inl, inr, length, length-drop, line_at, link-is, link-ranges, link-sound, link_of, loses, lossy-calls-come-through, map, nil_from_length}
-use Rattle.laws_time.proofs.Vocabulary.{no_link, not-told, option_to_list, patient-goes, queue_of, receives, refl, renewed, requests, rising-low, room_of, seeing, seen, sends, setting, subst, sym, take, take_all, takes_sabme, terms, true, true≢false, ua, uncalled, wire_doing_all as doing_all, with_before, with_sabme, ℕ, ◌++◌, ◌==◌, ◌∙◌, ◌∷◌, ◌≡◌, ◌≤◌, ◌⊎◌}
+use Rattle.laws_time.proofs.Vocabulary.{no_link, not-told, option_to_list, patient-goes, queue_of, receives, refl, renewed, requests, rising-low, room_of, seeing, seen, sends, setting, subst, sym, take, take_all, takes_sabme, terms, true, ua, uncalled, wire_doing_all as doing_all, with_before, with_sabme, ℕ, ◌++◌, ◌==◌, ◌∙◌, ◌∷◌, ◌≡◌, ◌≤◌, ◌⊎◌}
 use Rattle.model_link.proofs.Direction.{line_of}
 use Rattle.model_card.specs.Room.{room}
 use Rattle.laws_wire.specs.Losing.{heard_in}
@@ -33,11 +33,7 @@ codes-heard (t ∷ ts) =
     ∙ ap (λ cs. codes (t ∷ []) ++ cs) (codes-heard ts) ∙ sym (codes-append (t ∷ []) ts)
 
 contents-one : (t : LineTold) → contents_of (for_layer_3 t) ≡ contents_of (t ∷ [])
-contents-one t = by t.contents refl
-  where
-    by : (o : Option (List ℕ)) → t.contents ≡ o → contents_of (for_layer_3 t) ≡ contents_of (t ∷ [])
-    by None e = grind (arith, e)
-    by (Some octets) e = grind (arith, e)
+contents-one t = grind arith
 
 pub contents-heard : (ts : List LineTold) → contents_of (flat_map for_layer_3 ts) ≡ contents_of ts
 contents-heard [] = refl
@@ -95,15 +91,8 @@ module _ (service : Service) (tei : ℕ) (c d : Config) (p q : ℕ) (face : Face
   abbrev pub KnownOf : Called → Type 0
   KnownOf x = Known service tei x.told x.given_up
 
-  no-length : (ts : List LineTold) → ts ≡ [] → (length ts == 0) ≡ false → ⊥
-  no-length ts e some = true≢false (sym (ap (λ ts. length ts == 0) e) ∙ some)
-
   unsent : (x : Called) (w : Wire) → GoesSo x w → x.told ≡ [] → x.sent ≡ false
-  unsent x w h none = go h.phase
-    where
-      go : run.Phase service tei c d p q face back rt ru x h.v → x.sent ≡ false
-      go (inl (told, sent, down)) = sent
-      go (inr (some, called)) = absurd (no-length x.told none some)
+  unsent x w h none = grind arith
 
   known-step : (x : Called) (k : StepAt) (w : Wire) → GoesSo x w → KnownOf x → KnownOf (seeing service tei k w x)
   known-step x (at_near act) w h known = known
@@ -126,13 +115,7 @@ module _ (service : Service) (tei : ℕ) (c d : Config) (p q : ℕ) (face : Face
 
   -- Where it was told of no SABME it was told nothing.
   untold : (x : Called) (w : Wire) → GoesSo x w → x.told ≡ [] → heard_in w.far ≡ []
-  untold x w h none = ap (λ (w : Wire). heard_in w.far) h.is ∙ go h.phase
-    where
-      go : run.Phase service tei c d p q face back rt ru x h.v → heard_in h.v.far ≡ []
-      go (inl (told, sent, inl h)) = h.far.heard
-      go (inl (told, sent, inr (inl h))) = h.far.heard
-      go (inl (told, sent, inr (inr h))) = h.far.heard
-      go (inr (some, called)) = absurd (no-length x.told none some)
+  untold x w h none = grind arith
 
   -- ---- an end whose queue has each of its places
 
@@ -204,9 +187,7 @@ module _ (service : Service) (tei : ℕ) (c d : Config) (p q : ℕ) (face : Face
     its-none M held zero (left, has, is) = held.granted ∙ from-first M.link.contents M.link.a zero (keeps-none d q v.far M held.stands left has is)
 
     away-near : (b : Bool) → IsFree v.far → run.Rs service tei c d p q face back rt ru (Away b) v → v.far.granted ≡ []
-    away-near b free (inl h) = its-none h.far.M h.far.held h.far.a free
-    away-near b free (inr (inl h)) = its-none h.far.M h.far.held h.far.a free
-    away-near b free (inr (inr h)) = its-none h.far.M h.far.held h.far.a free
+    away-near b h1z h2z = grind (arith, its-none)
 
     called-near : (b : Bool) → IsFree v.far → run.IsCalled service tei c d p q face back rt ru past b v → NearHas
     called-near b free (inl h) = no-contents (not-told service tei c d p q face back rt ru (Away b) v h) (away-near b free h)
@@ -254,16 +235,7 @@ module _ (service : Service) (tei : ℕ) (c d : Config) (p q : ℕ) (face : Face
   module _ (x : Called) (w : Wire) (h : GoesSo x w) (known : KnownOf x) (t : ToldSo service tei x w) where
     -- no error was told there
     pub few : codes (heard_in w.far) ≡ [] → ((x.told ≡ []) × (x.given_up ≡ 0)) ⊎ ((x.told ≡ indicated service tei ∷ []) × (x.given_up ≡ 0))
-    few none = go known.kinds
-      where
-        quiet : codes x.told ≡ []
-        quiet = front-none (codes x.told) (codes t.far_at_once.0) (sym (codes-append x.told t.far_at_once.0) ∙ ap codes t.far_at_once.1 ∙ none)
-
-        go : ((x.told ≡ []) × (x.given_up ≡ 0)) ⊎ (((x.told ≡ indicated service tei ∷ []) × (x.given_up ≡ 0)) ⊎ (codes x.told ≡ [] → ⊥))
-            → ((x.told ≡ []) × (x.given_up ≡ 0)) ⊎ ((x.told ≡ indicated service tei ∷ []) × (x.given_up ≡ 0))
-        go (inl y) = inl y
-        go (inr (inl y)) = inr y
-        go (inr (inr some)) = absurd (some quiet)
+    few none = grind (arith, front-none, codes-append)
 
     none-given : codes (heard_in w.far) ≡ [] → x.given_up ≡ 0
     none-given none = go (few none)

@@ -203,7 +203,4 @@ module _ (n201 : ℕ) (c : Config) (ranged : IsInRange c) (size : c.n201 ≡ n20
 
 -- So much of what was given has been heard by the other end, or had to be.
 pub before-long : (n201 : ℕ) (p : Port) (way : List ℕ) (there : List (List ℕ)) (g : Going n201 p way there) (n transit : ℕ) → length p.given ≡ n → length way ≡ transit → n ≤ length g.before + transit
-before-long n201 p way there g n transit given long =
-    let all = ap length g.carries.given ∙ length-append g.before g.rest in
-    let whole = ap length g.way_is ∙ length-append g.flags g.rest in
-    omega (arith, all, whole, given, long)
+before-long n201 p way there g n transit given long = grind (arith, length-append)

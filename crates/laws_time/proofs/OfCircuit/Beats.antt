@@ -1,6 +1,6 @@
 -- Two ends of the clocked circuit, from beat to beat: what is under way from each, and until when T200 runs there.
 use Rattle.laws_time.proofs.Vocabulary.{All, All-head, All-tail, Config, IsClearAt, IsInRange, IsOfLink, Lengths, List, None, OctetEndpoint, Option, Port, Request, Service, Some, TimedEndpoint, [], answer as ports_answer, answered, ap, append_assoc, arith, asked, asks, comes_to, drop, fall_due, fold, framed, frames_among, gained, happens, heard-beyond, heard-way, heard_in, heard_side}
-use Rattle.laws_time.proofs.Vocabulary.{heard_with, hears, is_final, length, length-append, lt-div-mul-add, octet_at, octet_orders, octet_pulled, option_to_list, own_side, port-after, port_of, refl, subst, sym, unwrap_or, with_item, with_octet, within-ports, without_first_octet, ℕ, ◌*◌, ◌++◌, ◌+◌, ◌/◌, ◌∙◌, ◌∷◌, ◌≡◌, ◌≤◌}
+use Rattle.laws_time.proofs.Vocabulary.{heard_with, hears, length, length-append, lt-div-mul-add, octet_at, octet_orders, octet_pulled, option_to_list, own_side, port-after, port_of, refl, subst, sym, unwrap_or, with_item, with_octet, within-ports, without_first_octet, ℕ, ◌*◌, ◌++◌, ◌+◌, ◌/◌, ◌∙◌, ◌∷◌, ◌≡◌, ◌≤◌}
 use Rattle.model_bits.specs.Stream as stream
 use Rattle.model_line.specs.Event as line
 use Rattle.model_card.specs.ports.Port as port
@@ -9,11 +9,10 @@ use Rattle.laws_time.proofs.Moments.{now-stays}
 use Rattle.laws_time.proofs.OfCircuit.Acts.{Goes, goes-both, soon-then, all-asked, all-fall}
 use Rattle.laws_time.proofs.OfCircuit.Ends.{Rests, at_time, time-comes}
 use Rattle.laws_time.proofs.OfCircuit.Heard.{none-comes, dropped-comes, frame-comes, pulled-end}
-use Rattle.laws_time.proofs.OfCircuit.Open.{ring, half}
-use Rattle.laws_time.proofs.OfCircuit.Sender.{out, sends-later}
+use Rattle.laws_time.proofs.OfCircuit.Open.{half}
+use Rattle.laws_time.proofs.OfCircuit.Sender.{out}
 use Rattle.laws_time.proofs.OfCircuit.Standing.{IsOwn, fine, pulls}
 use Rattle.laws_time.proofs.OfCircuit.Under.{EndOk, Then}
-use Rattle.laws_time.specs.circuit.LongEnough.{is_of}
 
 -- The next moment comes after so many beats.
 pub soon-now : (n rate : ℕ) → 1 ≤ rate → n + 1 ≤ (n / rate + 1) * rate
@@ -37,8 +36,7 @@ none-overlong (f ∷ fs) (x ∷ xs) ys head is = none-overlong fs xs ys head (cc
 
 -- A pull gives an octet, and receives none.
 pub same-received : (o : Option line.Answer) (p : Port) → (with_octet (with_item o p)).received ≡ p.received
-same-received None p = refl
-same-received (Some a) p = refl
+same-received o p = grind arith
 
 pulled-way : (s : OctetEndpoint) → length (circuit.happens port.pull s).way ≡ length s.way + 1
 unfolding ports_answer
@@ -47,20 +45,6 @@ pulled-way s = length-append s.way (octet_pulled (answered port.pull s))
 module _ (service : Service) (tei transit : ℕ) (lengths : Lengths) (rate : ℕ) (c : Config) (ranged : IsInRange c) where
   abbrev pub End : ℕ → ℕ → TimedEndpoint → Type 0
   End S M a = EndOk c service tei 0 ranged lengths rate S M a
-
-  pub end-later : (S M M' : ℕ) → M ≤ M' → (a : TimedEndpoint) → End S M a → End S M' a
-  end-later S M M' less a h = record {
-    but = record {
-      ends = h.but.ends;
-      clock = h.but.clock;
-      ours = h.but.ours;
-      lengths_are = h.but.lengths_are;
-      early = h.but.early;
-      polls = h.but.polls;
-      finals = sends-later c.n201 (is_of is_final c) M M' less (port_of a.at) (ring c service tei 0 ranged h.but.ends.its) h.but.finals;
-    };
-    timer = h.timer;
-  }
 
   without-end : (S M : ℕ) (a : TimedEndpoint) → End S M a → End S M (without_first_octet a)
   without-end S M a h = record {
@@ -178,9 +162,6 @@ module _ (service : Service) (tei transit : ℕ) (lengths : Lengths) (rate : ℕ
         )
 
     module _ (value : ℕ) (more : List ℕ) (comes : other.at.way ≡ value ∷ more) where
-      abbrev got : ℕ
-      got = unwrap_or noise value
-
       abbrev Heard : Type 0
       Heard = Then c service tei 0 ranged lengths rate S M' (happens (port.octet (unwrap_or noise value)) a)
 
@@ -191,17 +172,17 @@ module _ (service : Service) (tei transit : ℕ) (lengths : Lengths) (rate : ℕ
       before-long before is = let all = ap length is ∙ length-append before other.at.way in omega (arith, all, given_far, way_far)
 
       by-gain : (o : Option stream.Event) → gained c.n201 (port_of a.at).received (unwrap_or noise value) ≡ o → Heard
-      by-gain None is = none-comes c service tei 0 ranged lengths rate a S M M' h less got soon is
-      by-gain (Some (stream.dropped cause)) is = dropped-comes c service tei 0 ranged lengths rate a S M M' h less got soon cause is
+      by-gain None is = none-comes c service tei 0 ranged lengths rate a S M M' h less (unwrap_or noise value) soon is
+      by-gain (Some (stream.dropped cause)) is = dropped-comes c service tei 0 ranged lengths rate a S M M' h less (unwrap_or noise value) soon cause is
       by-gain (Some (stream.overlong head)) is =
-          let x = clear value more (stream.overlong head) comes (ap (λ n. gained n (port_of a.at).received got) (sym size) ∙ is) tt in
+          let x = clear value more (stream.overlong head) comes (ap (λ n. gained n (port_of a.at).received (unwrap_or noise value)) (sym size) ∙ is) tt in
           let y = stood x.0 value more (stream.overlong head) (given-so x.0 x.1) (ap (λ n. gained n x.0 value) size_far ∙ x.2) in
           absurd (none-overlong (frames_among (port_of other.at).items) y.0 y.1 head y.2)
       by-gain (Some (stream.frame octets)) is =
-          let x = clear value more (stream.frame octets) comes (ap (λ n. gained n (port_of a.at).received got) (sym size) ∙ is) tt in
+          let x = clear value more (stream.frame octets) comes (ap (λ n. gained n (port_of a.at).received (unwrap_or noise value)) (sym size) ∙ is) tt in
           let there : gained d.n201 x.0 value ≡ Some (stream.frame octets) = ap (λ n. gained n x.0 value) size_far ∙ x.2 in
           let y = stood x.0 value more (stream.frame octets) (given-so x.0 x.1) there in
-          frame-comes c service tei 0 ranged lengths rate a S M M' h less got soon d ranged_far side (size_far ∙ sym size) octets
+          frame-comes c service tei 0 ranged lengths rate a S M M' h less (unwrap_or noise value) soon d ranged_far side (size_far ∙ sym size) octets
           (λ asked_it. let early = k.but.polls.done x.0 value more octets (given-so x.0 x.1) there asked_it in let so_long = before-long x.0 x.1 in
           omega (arith, early, so_long, given, bound))
           (one-of (IsOwn d service tei 0 ranged_far) (frames_among (port_of other.at).items) y.0 y.1 octets y.2 k.but.ends.frames) is

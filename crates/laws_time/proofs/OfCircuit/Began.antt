@@ -1,11 +1,8 @@
 -- Two ends of the clocked circuit as they begin: nothing is under way, and no timer runs.
-use Rattle.laws_time.proofs.Vocabulary.{All, All-nil, AreInRange, AreOctets, Assign, Bool, Card, Config, GivesOctets, IsInRange, Lengths, List, None, OctetEndpoint, Option, PoolFull, Port, Ran, Refusal, Service, Some, StationStands, [], answered, ap, arith, asked-as, asked-way, at, at_management, cond, endpoint, false, first, flags, frames_among, fresh_at, fresh_link, fresh_port, goes-on}
-use Rattle.laws_time.proofs.Vocabulary.{is_final, is_terminal, length, length-replicate, line_answer, line_at, meant_all, moments as frame_moments, octet_at, octet_endpoint, octet_orders, of_aim, of_change, of_network, of_terminal, orders_in, port-after, port_of, ports_fresh as fresh, refl, refusal, some-in, stopped, subst, sym, tei_assign, tei_course, tei_refusal, terminal_course, terminal_in}
-use Rattle.laws_time.proofs.Vocabulary.{told_of_terminal, true, true≢false, unless_refused, unless_refused_told, wants_room, with_terminal, within-ports, ℕ, ◌+◌, ◌<◌, ◌∙◌, ◌≡◌, ◌≤◌}
-use Rattle.lapd_tei.specs.Table.{free_place}
+use Rattle.laws_time.proofs.Vocabulary.{All, All-nil, AreInRange, AreOctets, Assign, Bool, Card, Config, GivesOctets, IsInRange, Lengths, List, None, OctetEndpoint, Option, Port, Ran, Refusal, Service, Some, StationStands, [], answered, ap, arith, asked-as, asked-way, at, at_management, cond, endpoint, false, first, flags, frames_among, fresh_at, fresh_link, fresh_port, goes-on}
+use Rattle.laws_time.proofs.Vocabulary.{is_final, is_terminal, length, length-replicate, line_answer, meant_all, moments as frame_moments, octet_at, octet_endpoint, octet_orders, of_aim, of_network, of_terminal, orders_in, port-after, port_of, ports_fresh as fresh, refl, refusal, some-in, stopped, subst, sym, tei_assign, tei_course, tei_refusal, terminal_course}
+use Rattle.laws_time.proofs.Vocabulary.{true, true≢false, unless_refused, unless_refused_told, within-ports, ℕ, ◌+◌, ◌<◌, ◌∙◌, ◌≡◌, ◌≤◌}
 use Rattle.lapd_terminal.specs.Events as terminals
-use Rattle.lapd_terminal.specs.Rows.{join_at, put_on}
-use Rattle.lapd_terminal.specs.Words.{Course, begun as terminal_begun}
 use Rattle.model_line.specs.Event as line
 use Rattle.model_line.specs.Line.{Line}
 use Rattle.model_card.specs.Machine as machine
@@ -31,20 +28,9 @@ module _ (c : Config) (tei : ℕ) (l : Line) where
   unfolding tei_course tei_refusal
   here = grind arith
 
-  abbrev OrdersNone : Course → Type 0
-  OrdersNone x = (of_change c x.told.change (told_of_terminal x.told) (with_terminal x.now l)).told.orders ≡ []
-
   there : (of_terminal c (terminals.assign tei) l).told.orders ≡ []
   unfolding terminal_course
-  there = unless (terminals.refusal (terminals.assign tei) (terminal_in l))
-    where
-      joined : (o : Option ℕ) → OrdersNone (join_at tei o (terminal_begun (terminal_in l)))
-      joined None = refl
-      joined (Some place) = refl
-
-      unless : (o : Option Refusal) → OrdersNone (terminals.unless_refused o (put_on tei) (terminal_in l))
-      unless None = joined (free_place l.management.places)
-      unless (Some why) = refl
+  there = grind arith
 
   assigned-none : orders_in (line_answer c (line.request (Assign tei)) l) ≡ []
   unfolding line_answer
@@ -59,11 +45,7 @@ module _ (c : Config) (tei : ℕ) (l : Line) where
       unless (Some why) = refl
 
 assign-orders : (number tei : ℕ) (card : Card) → orders_in (machine.answer (at number (line.request (Assign tei))) card) ≡ []
-assign-orders number tei card = go (wants_room (at number (line.request (Assign tei))) card)
-  where
-    go : (b : Bool) → orders_in (cond b (line.refused PoolFull) (line_answer card.config (line.request (Assign tei)) (line_at number card))) ≡ []
-    go true = refl
-    go false = assigned-none card.config tei (line_at number card)
+assign-orders number tei card = grind (arith, assigned-none)
 
 -- A port that gave nothing, and has nothing to give.
 pub sends-none : (n201 : ℕ) (kind : List ℕ → Bool) (most : ℕ) (p : Port) → p ≡ fresh_port → Sends n201 kind most p []

@@ -1,6 +1,6 @@
 -- A station whose link is up: how many of its contents are acknowledged, as its room says, and how many the other was told.
-use Rattle.laws_time.proofs.Vocabulary.{BadTei, Bool, Config, Established, FrameEndpoint as Endpoint, Held, LineTold, Link, LinkEndpoint, List, LooseAt, LooseUp, NoLink, None, Ok, Refusal, Room, Service, Some, StationStands, Terms, TimerRecovery, Wire, [], ap, arith, cond, data_told, false, free_slots, inl, inr, is_on-at, le-ltb, length, length-drop, length-take-le, line_at, link-is}
-use Rattle.laws_time.proofs.Vocabulary.{link-ranges, link-sound, link_of, map, not, place_of-is, queue_of, refl, rising-low, room_of, subst, sym, terms, true, unless, ℕ, ◌++◌, ◌+◌, ◌∙◌, ◌≡◌, ◌≤◌, ◌⊎◌}
+use Rattle.laws_time.proofs.Vocabulary.{BadTei, Bool, Config, Established, FrameEndpoint as Endpoint, Held, LineTold, Link, LinkEndpoint, List, LooseAt, LooseUp, NoLink, None, Ok, Refusal, Room, Service, Some, StationStands, Terms, TimerRecovery, Wire, [], ap, arith, cond, false, free_slots, inl, inr, is_on-at, le-ltb, length, length-drop, length-take-le, line_at, link-is}
+use Rattle.laws_time.proofs.Vocabulary.{link-ranges, link-sound, link_of, not, place_of-is, queue_of, refl, rising-low, room_of, subst, sym, terms, true, unless, ℕ, ◌+◌, ◌∙◌, ◌≡◌, ◌≤◌, ◌⊎◌}
 use Rattle.model_link.proofs.Direction.{line_of}
 use Rattle.model_card.specs.Room.{room}
 use Rattle.laws_wire.specs.Losing.{heard_in}
@@ -47,10 +47,7 @@ module _ (service : Service) (tei : ℕ) where
 
     -- The other end was told as many contents as it has received.
     pub told-as-many : contents_of other ≡ [] → length (contents_of (heard_in w.far)) ≡ m.link.r
-    told-as-many none =
-        let told = ap contents_of h.far.heard ∙ contents-append other (map (data_told service tei) m.delivered) ∙ ap (λ cs. cs ++ contents_of (map (data_told service tei) m.delivered)) none
-        ∙ contents-data service tei m.delivered in
-        ap length told ∙ ap length h.loose.joined.there.delivered ∙ length-take-le m.link.r n.link.contents accepted
+    told-as-many none = grind (arith, contents-append, contents-data, length-take-le)
 
     pub acknowledges-some : Acknowledges service tei n.link.a w.near
     acknowledges-some = let one = acked in let two = accepted in acknowledges c p past w.near n h.near (omega (arith, one, two))
@@ -70,8 +67,4 @@ module _ (service : Service) (tei : ℕ) where
         go (inr low) = low
 
     pub paid : (k : ℕ) (h : UpWith service tei c d p q past other (Owes false k) w) → k ≤ h.n.link.a
-    paid k h = go h.holds.is
-      where
-        go : ((false ≡ true) × (h.n.link.state ≡ TimerRecovery)) ⊎ (k ≤ h.n.link.a) → k ≤ h.n.link.a
-        go (inl (b, asks)) = absurd (cc b)
-        go (inr low) = low
+    paid k h = grind arith

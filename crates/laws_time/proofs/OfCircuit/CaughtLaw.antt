@@ -1,32 +1,24 @@
 -- An end that enquired catches up: on a wire, and as it is seen on the circuit.
-use Rattle.laws_time.proofs.Vocabulary.{AwaitingEstablishment, AwaitingRelease, Bool, Clocked, Config, Established, Face, FrameEndpoint, HasCaughtUp, IsFit, Line, LineTold, Link, LinkEndpoint, List, Option, Service, Setting, Some, State, StationStands, TeiAssigned, TimedEndpoint, TimerRecovery, Wire, [], ap, arith, confirmed, contents_at, false, indicated, length, refl, setting, state_at}
+use Rattle.laws_time.proofs.Vocabulary.{Bool, Clocked, Config, Established, Face, FrameEndpoint, HasCaughtUp, IsFit, Line, LineTold, Link, LinkEndpoint, List, Option, Service, Setting, Some, State, StationStands, TimedEndpoint, TimerRecovery, Wire, [], ap, arith, confirmed, contents_at, false, indicated, length, refl, setting, state_at}
 use Rattle.laws_time.proofs.Vocabulary.{state_number, subst, sym, turned, ℕ, ◌∙◌, ◌∷◌, ◌≡◌, ◌≤◌}
 use Rattle.laws_wire.specs.Losing.{heard_in}
 use Rattle.laws_time.proofs.OfCircuit.ArrivAs.{heard_of}
 use Rattle.laws_time.proofs.OfCircuit.ArrivPath.{of_call, Path, talk-of}
-use Rattle.laws_time.proofs.OfCircuit.ArrivRun.{SameNow}
+use Rattle.laws_time.proofs.OfCircuit.ArrivBeat.{Same}
 use Rattle.laws_time.proofs.OfCircuit.ArrivTold.{contents-heard, contents_of}
 use Rattle.laws_time.proofs.OfCircuit.CaughtEnds.{Acknowledges, told-as-many, acknowledges-some, no-more, paid}
 use Rattle.laws_time.proofs.OfCircuit.CaughtLinks.{Owes, owes-keeps, owed-keeps}
 use Rattle.laws_time.proofs.OfCircuit.CaughtWire.{UpWith, all-steps}
 use Rattle.laws_time.proofs.OfCircuit.InCallPhase.{its-is}
-use Rattle.laws_time.proofs.OfCircuit.InTime.{PairNow}
 use Rattle.laws_time.proofs.OfCircuit.Under.{state-here}
+use Rattle.laws_time.proofs.OfCircuit.LongEnough.{Pair}
 
 -- The states by their numbers.
 pub in-7 : (s : State) → state_number s ≡ 7 → s ≡ Established
-in-7 Established is = refl
-in-7 TeiAssigned is = cc is
-in-7 AwaitingEstablishment is = cc is
-in-7 AwaitingRelease is = cc is
-in-7 TimerRecovery is = cc is
+in-7 s h1z = grind arith
 
 pub in-8 : (s : State) → state_number s ≡ 8 → s ≡ TimerRecovery
-in-8 TimerRecovery is = refl
-in-8 TeiAssigned is = cc is
-in-8 AwaitingEstablishment is = cc is
-in-8 AwaitingRelease is = cc is
-in-8 Established is = cc is
+in-8 s h1z = grind arith
 
 pub number-of : (a b : ℕ) (o : Option ℕ) → o ≡ Some a → o ≡ Some b → b ≡ a
 number-of a b o x y = cc (sym x ∙ y)
@@ -64,7 +56,7 @@ module _ (l : Line) (fit : IsFit l) where
   abbrev pub far_past : List LineTold
   far_past = indicated l.service l.tei ∷ []
 
-  module _ (w : Clocked) (pair : PairNow l fit w) (f : Wire) (same : SameNow l fit w f) where
+  module _ (w : Clocked) (pair : Pair l fit w) (f : Wire) (same : Same l w f) where
     pub near-number : (n : LinkEndpoint) → StationStands l.near l.service l.tei 0 f.near n → state_at l w.near ≡ Some (state_number n.link.state)
     near-number n stands =
         state-here l.near l.service l.tei 0 fit.call.near.0 l.lengths l.rate w.near.at pair.near_ok.but.ends

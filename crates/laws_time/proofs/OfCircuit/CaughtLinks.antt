@@ -130,11 +130,7 @@ pub record Owes (asks : Bool) (k : ℕ) (n m : LinkEndpoint) : Type 0 where
 module _ (asks : Bool) (k : ℕ) where
   by-state : (n n' : LinkEndpoint) → n.link.a ≤ n'.link.a → (n.link.state ≡ TimerRecovery → (n'.link.state ≡ TimerRecovery) ⊎ (k ≤ n'.link.a))
       → ((asks ≡ true) × (n.link.state ≡ TimerRecovery)) ⊎ (k ≤ n.link.a) → ((asks ≡ true) × (n'.link.state ≡ TimerRecovery)) ⊎ (k ≤ n'.link.a)
-  by-state n n' low on (inr x) = inr (omega (arith, x, low))
-  by-state n n' low on (inl (b, at)) = elim (on at) [
-    | inl y ↦ inl (b, y)
-    | inr y ↦ inr y
-  ]
+  by-state n n' h1z h2z h3z = grind arith
 
   pub owes-keeps : Keeps (Owes asks k)
   owes-keeps = record {

@@ -5,7 +5,7 @@ use Rattle.lapd_frame.specs.Reading.{reading}
 use Rattle.lapd_tei.specs.Events as teis
 use Rattle.model_line.specs.Machine as lines
 use Rattle.model_card.specs.ports.Card as ports
-use Rattle.laws_time.proofs.OfCircuit.AnsweredClear.{no-noise-is-clear}
+use Rattle.laws_time.proofs.OfCircuit.AgainKept.{no-noise-is-clear}
 use Rattle.laws_time.specs.circuit.WorkedCaughtUp.{AnEnquiryMeetsIt, its_line, sends, talks}
 use Rattle.laws_time.proofs.OfCircuit.ArrivMet.{octet}
 

@@ -1,5 +1,5 @@
 -- A call on the circuit up to a time, and from there on, part by part: on a wire of frames both links are up.
-use Rattle.laws_time.proofs.Vocabulary.{All, All-append, All-cons, All-head, All-nil, All-tail, AreAsked, AreClear, Beat, Clocked, Establish, GoesWell, IsFit, IsIdle, IsOfLink, IsTalk, IsUp, Line, List, LooseUp, Option, Request, Some, Wire, [], after, all-left, all-right, ap, append_assoc, arith, beat, begins, calling, calls, errors_at, false, fold-append, front-none, in_call, inl, inr}
+use Rattle.laws_time.proofs.Vocabulary.{All, All-append, All-cons, All-head, All-nil, All-tail, AreAsked, AreClear, Beat, Clocked, Establish, GoesWell, IsIdle, IsOfLink, IsTalk, IsUp, Line, List, LooseUp, Option, Request, Some, [], after, all-left, all-right, ap, append_assoc, arith, beat, begins, calling, calls, errors_at, false, fold-append, front-none, in_call, inl, inr}
 use Rattle.laws_time.proofs.Vocabulary.{is_used_up, list_any, list_any-append, or_parts, refl, state_at, subst, sym, ℕ, ◌++◌, ◌∙◌, ◌∷◌, ◌≡◌, ◌⊎◌}
 use Rattle.laws_wire.specs.Losing.{heard_in}
 use Rattle.laws_time.proofs.OfCircuit.ArrivBeat.{put_at}
@@ -12,8 +12,8 @@ use Rattle.laws_time.proofs.OfCircuit.CaughtBegun.{both-up}
 use Rattle.laws_time.proofs.OfCircuit.CaughtLaw.{near_past, far_past, near-heard, far-heard}
 use Rattle.laws_time.proofs.OfCircuit.InCallFair.{BothWalk, walks-all, talk-all}
 use Rattle.laws_time.proofs.OfCircuit.InCallPhase.{in-call}
-use Rattle.laws_time.proofs.OfCircuit.InTime.{PairNow, near_card, far_card, pair-begins}
-use Rattle.laws_time.proofs.OfCircuit.LongEnough.{all-pairs, clear-parts}
+use Rattle.laws_time.proofs.OfCircuit.InTime.{pair-begins}
+use Rattle.laws_time.proofs.OfCircuit.LongEnough.{all-pairs, clear-parts, Pair}
 
 pub idle-talk : (l : Line) (before : List Beat) → All IsIdle before → All (IsTalk l) before
 idle-talk l [] all = All-nil (IsTalk l)
@@ -24,9 +24,6 @@ idle-talk l (b ∷ before) all = All-cons (IsTalk l) b before (none b.near_asks 
 
 -- A call up to a time, and from there on.
 module _ (l : Line) (before bs more : List Beat) (b : Beat) (h : GoesWell l before b (bs ++ more)) where
-  abbrev fit : IsFit l
-  fit = h.fit
-
   abbrev w : Clocked
   w = in_call l before b bs
 
@@ -63,10 +60,9 @@ module _ (l : Line) (before bs more : List Beat) (b : Beat) (h : GoesWell l befo
   pub first-talk : All (IsTalk l) (before ++ calls l b ∷ bs)
   first-talk = All-append (IsTalk l) before (calls l b ∷ bs) (idle-talk l before h.idle) (All-cons (IsTalk l) (calls l b) bs call-talk (talk-all l h.fit bs asked-bs))
 
-  pub pair-w : PairNow l h.fit (in_call l before b bs)
+  pub pair-w : Pair l h.fit (in_call l before b bs)
   pair-w =
-      let k = h.fit.call in
-      all-pairs l h.fit.some k.near.0 k.far.0 k.opposite.0 k.opposite.1 h.fit.t200 (near_card l h.fit) (far_card l h.fit) first first-talk (begins l) clear.0 (pair-begins l h.fit)
+      all-pairs l h.fit first first-talk (begins l) clear.0 (pair-begins l h.fit)
 
   walk : BothWalk l h.fit (in_call l before b bs) (after l.rate more (in_call l before b bs))
   walk = walks-all l h.fit more w pair-w (talk-all l h.fit more asked-more) clear.1
@@ -75,9 +71,6 @@ module _ (l : Line) (before bs more : List Beat) (b : Beat) (h : GoesWell l befo
   fair-u =
       let used = subst (λ (u : Clocked). list_any is_used_up (errors_at u.near ++ errors_at u.far) ≡ false) same-world h.used in
       or_parts (list_any is_used_up (errors_at u.near)) (list_any is_used_up (errors_at u.far)) (sym (list_any-append is_used_up (errors_at u.near) (errors_at u.far)) ∙ used)
-
-  abbrev start : Wire
-  start = calling l.service l.tei l.near l.near_line l.far l.far_line
 
   pub reached-w : Reached l h.fit (calling l.service l.tei l.near l.near_line l.far l.far_line) (in_call l before b bs)
   reached-w = reached l h.fit before b bs h.idle asked-b asked-bs clear.0 (fair-all l.rate more w fair-u)
@@ -95,7 +88,7 @@ module _ (l : Line) (before bs more : List Beat) (b : Beat) (h : GoesWell l befo
     pub up-there : IsUp l (in_call l before b bs).near → LooseUp l.service l.tei l.near l.far 0 0 (near_past l h.fit) (far_past l h.fit) r.f
     up-there up =
         subst (λ f. codes (heard_in f.far) ≡ [] → (heard_in f.near ≡ [] → ⊥) → LooseUp l.service l.tei l.near l.far 0 0 (near_past l h.fit) (far_past l h.fit) f) r.path.leads
-        (both-up l.service l.near l.far l.near_line l.far_line l.tei r.path.steps h.fit.call (talk-of of_call l.service l.tei start r.f r.path) r.path.patient) quiet some
+        (both-up l.service l.near l.far l.near_line l.far_line l.tei r.path.steps h.fit.call (talk-of of_call l.service l.tei (calling l.service l.tei l.near l.near_line l.far l.far_line) r.f r.path) r.path.patient) quiet some
       where
         not-5 : (o : Option ℕ) → (o ≡ Some 7) ⊎ (o ≡ Some 8) → o ≡ Some 5 → ⊥
         not-5 o (inl seven) five = cc (sym seven ∙ five)
@@ -127,10 +120,10 @@ module _ (l : Line) (before bs more : List Beat) (b : Beat) (h : GoesWell l befo
     asked-rest : All (AreAsked l) rest
     asked-rest = all-right (AreAsked l) done rest asked
 
-    pub pair-done : PairNow l h.fit (after l.rate done (in_call l before b bs))
+    pub pair-done : Pair l h.fit (after l.rate done (in_call l before b bs))
     pair-done = (walks-all l h.fit done w pair-w (talk-all l h.fit done asked-done) parts.0).pair
 
-    pub pair-rest : PairNow l h.fit (after l.rate rest (after l.rate done (in_call l before b bs)))
+    pub pair-rest : Pair l h.fit (after l.rate rest (after l.rate done (in_call l before b bs)))
     pair-rest = (walks-all l h.fit rest (after l.rate done w) pair-done (talk-all l h.fit rest asked-rest) parts.1).pair
 
     fair-rest : IsFairBoth (after l.rate rest (after l.rate done (in_call l before b bs)))

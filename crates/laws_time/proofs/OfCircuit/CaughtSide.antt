@@ -50,26 +50,23 @@ module _ (l : Line) (c d : Config) (face : Face c d) (back : Face d c) (past oth
       abbrev g : Wire
       g = (parts done rest all).0
 
-      abbrev now : Later (after l.rate done v) f (parts done rest all).0
-      now = (parts done rest all).2
-
       at-done : At true (parts done rest all).0
       at-done =
-          goes-on l.service l.tei c d face back past other none true up.m.link.r f g now.path
+          goes-on l.service l.tei c d face back past other none true up.m.link.r f g ((parts done rest all).2).path
           (owing l.service l.tei c d 0 0 past other f up (in-8 up.n.link.state (number-of 8 (state_number up.n.link.state) (state_at l (own v)) eight (first up.n up.near.stands))))
 
       -- Both are up then.
       own-up : IsUp l (own (after l.rate done v))
-      own-up = up-in l (own u) at-done.n.link.state (now.own_number at-done.n at-done.at.near.stands) at-done.at.loose.joined.near_up
+      own-up = up-in l (own u) at-done.n.link.state (((parts done rest all).2).own_number at-done.n at-done.at.near.stands) at-done.at.loose.joined.near_up
 
       there-up : IsUp l (there (after l.rate done v))
-      there-up = up-in l (there u) at-done.m.link.state (now.there_number at-done.m at-done.at.far.stands) at-done.at.loose.joined.far_up
+      there-up = up-in l (there u) at-done.m.link.state (((parts done rest all).2).there_number at-done.m at-done.at.far.stands) at-done.at.loose.joined.far_up
 
       -- If it does not ask then, it has caught up in the end.
       pub caught-by-then : state_at l (own (after l.rate done v)) ≡ Some 7 → HasCaughtUp l (there v) (there (after l.rate more v)) (own (after l.rate more v))
       caught-by-then seven =
           let x = at-done.n in
-          let its = number-of 7 (state_number x.link.state) (state_at l (own u)) seven (now.own_number x at-done.at.near.stands) in
+          let its = number-of 7 (state_number x.link.state) (state_at l (own u)) seven (((parts done rest all).2).own_number x at-done.at.near.stands) in
           let paid_then : At false g = settled l.service l.tei c d 0 0 past other g up.m.link.r at-done (in-7 x.link.state its) in
           let last = (parts done rest all).3 in
           let h = (parts done rest all).1 in

@@ -1,7 +1,7 @@
 -- An end that enquired catches up, whatever noise there is; and in time where there is none.
 use Rattle.laws_time.proofs.Vocabulary.{All, AnEnquiryCatchesUp, AnswersTellWhatCame, AreClear, Beat, Clocked, Enquires, GoesWell, HasCaughtUp, IsTalk, IsUndisturbed, IsUp, Line, List, Some, [], after, answered_in, ap, append-nil, append_assoc, arith, beat, begins, begun, calls, fold-append, in_call, inl, inr, length, lost_at, map, map-append, state_at, subst, sym, ◌++◌, ◌∙◌, ◌∷◌, ◌≡◌, ◌≤◌}
 use Rattle.laws_time.proofs.OfCircuit.Answered.{an-enquiry-is-answered}
-use Rattle.laws_time.proofs.OfCircuit.CaughtMirror.{turned_line, turned_beat, turned_world, after-turned, answered-same, fit-turned, talk-turned, clear-turned, clean-turned, length-turned}
+use Rattle.laws_time.proofs.OfCircuit.Turned.{turned_line, turned_beat, turned_world, after-turned, answered-same, fit-turned, talk-turned, clear-turned, clean-turned, length-turned}
 use Rattle.laws_time.proofs.OfCircuit.CaughtNear.{caught-by-then, asks-or-caught, other-up, caught-by-then-back, asks-or-caught-back}
 
 pub answers-tell-what-came : AnswersTellWhatCame

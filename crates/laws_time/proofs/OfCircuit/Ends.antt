@@ -1,10 +1,11 @@
 -- An end of the clocked circuit is a timed card of octets that is prompt.
-use Rattle.laws_time.proofs.Vocabulary.{All-from_recursion, AllByRecursion, AreInRange, ArePrompt, Assign, Beat, Bool, Clocked, Config, EndsAreTimedCards, Expiry, IsInOrder, IsInTime, IsNoOctetsExpiry as IsNoExpiry, IsPrompt, IsTimedCard, Lengths, List, None, OctetEvent as Event, Option, Request, Some, Step, TimedEndpoint, TimedOctetCard, [], after, after_all, all_due, answered, ap, arith, asks}
-use Rattle.laws_time.proofs.Vocabulary.{at_moment, beat, card_of, comes_to, cond, div-le_self, drop, due, endpoint, fall_due, falls, falls_due, first, first_due, fold, fresh, gone, happens, hears, is_before, length, nat_le, obeyed, octet_at as at, octet_orders as orders_in, octets, option_map_or, refl, step_happens, subst, suc, sym, time, unwrap_or, with_expiry, without_first}
+use Rattle.laws_time.proofs.Vocabulary.{All-from_recursion, AllByRecursion, AreInRange, ArePrompt, Assign, Beat, Clocked, Config, EndsAreTimedCards, Expiry, IsInOrder, IsInTime, IsNoOctetsExpiry as IsNoExpiry, IsPrompt, IsTimedCard, Lengths, List, None, OctetEvent as Event, Option, Request, Some, Step, TimedEndpoint, TimedOctetCard, [], after, after_all, all_due, answered, ap, arith, asks}
+use Rattle.laws_time.proofs.Vocabulary.{at_moment, beat, card_of, comes_to, div-le_self, drop, due, endpoint, fall_due, falls, falls_due, first, first_due, fold, fresh, gone, happens, hears, is_before, length, nat_le, obeyed, octet_at as at, octet_orders as orders_in, octets, option_map_or, refl, step_happens, subst, suc, sym, time, unwrap_or, with_expiry, without_first}
 use Rattle.laws_time.proofs.Vocabulary.{without_first_octet, zero, ℕ, ◌++◌, ◌+◌, ◌-◌, ◌/◌, ◌<◌, ◌∙◌, ◌∷◌, ◌≡◌, ◌≤◌}
 use Rattle.model_card.proofs.OfPorts.Steps.{config_after}
 use Rattle.model_card.specs.ports.Port as port
 use Rattle.model_timed.specs.Timed.{after as next}
+use Rattle.laws_time.proofs.Falls.{first-is}
 use Rattle.laws_time.proofs.Moments.{now-stays, lengths-stay}
 use Rattle.laws_time.proofs.OfCircuit.Prompt.{long, all-obeyed, ordered-obeyed, due-obeyed, none-due, one-due, few-due, all-later, div-stays, many_due}
 
@@ -74,10 +75,7 @@ rest-in-order (x ∷ xs) h = h.1
 
 pub first-of : (P : Expiry → Type 0) (xs : List Expiry) (now : ℕ) (x : Expiry) → AllByRecursion P xs → first_due xs now ≡ Some x → P x
 first-of P [] now x all is = cc is
-first-of P (e ∷ xs) now x all is = subst P (the-first e x (nat_le e.moment now) is) all.0
-  where
-    the-first : (e x : Expiry) (b : Bool) → cond b (Some e) None ≡ Some x → e ≡ x
-    the-first e x b is = grind arith
+first-of P (e ∷ xs) now x all is = subst P (first-is e x (nat_le e.moment now) is) all.0
 
 abbrev pub without : TimedEndpoint → TimedEndpoint
 without s = record s { clock = without_first s.clock }
@@ -238,13 +236,7 @@ pub record Both (rate : ℕ) (t u : TimedOctetCard) (w : Clocked) : Type 0 where
   pub far_leads : Leads u (card_of w.far)
 
 pub next-moment : (rate beats : ℕ) → 1 ≤ rate → ((beats - 1) / rate ≤ beats / rate) × (beats / rate ≤ (beats - 1) / rate + 1)
-next-moment rate zero some = (omega arith, omega arith)
-next-moment rate (suc n) some =
-    let same : suc n - 1 ≡ n = omega arith in let more : suc n ≡ n + 1 = omega arith in
-    let x = div-stays n rate some in (
-      subst (λ k. k / rate ≤ suc n / rate) (sym same) (subst (λ k. n / rate ≤ k / rate) (sym more) x.0),
-      subst (λ k. suc n / rate ≤ k / rate + 1) (sym same) (subst (λ k. k / rate ≤ n / rate + 1) (sym more) x.1),
-    )
+next-moment rate beats h1z = grind (arith, div-stays)
 
 pub one-beat : (rate : ℕ) → 1 ≤ rate → (t u : TimedOctetCard) (b : Beat) (w : Clocked) → Both rate t u w → Both rate t u (beat rate w b)
 one-beat rate some t u b w h =

@@ -1,6 +1,6 @@
 -- An octet comes to an end of the clocked circuit, and one is pulled there.
 use Rattle.laws_time.proofs.Vocabulary.{Bool, Clock, Config, IsInRange, Lengths, LinkEvent, List, None, Observed, Ok, Option, Parts, Service, Some, TimedCard, TimedEndpoint, View, [], answered, ap, arith, at, came, card_of, cond, false, frame_in, gained, happens, heard_side, is_due, is_final, is_on, is_some, is_time, is_waiting, length, length-append, list_any, meant_all, moment_at, moment_of}
-use Rattle.laws_time.proofs.Vocabulary.{obeyed, octet_at, octet_orders, option_map, option_map_or, or-none, own_side, parts_of, port_of, ports_fresh as fresh, reading, refl, same_Some, state, state_number, subst, sym, true, true≢false, view_behind, view_of, ℕ, ◌++◌, ◌+◌, ◌∙◌, ◌∷◌, ◌≡◌, ◌≤◌}
+use Rattle.laws_time.proofs.Vocabulary.{obeyed, octet_at, octet_orders, option_map, option_map_or, or-none, own_side, parts_of, port_of, ports_fresh as fresh, reading, refl, state, state_number, subst, sym, true, true≢false, view_behind, view_of, ℕ, ◌++◌, ◌+◌, ◌∙◌, ◌∷◌, ◌≡◌, ◌≤◌}
 use Rattle.lapd_frame.specs.declared.timers.Timer.TheVariants as timers
 use Rattle.model_bits.specs.Stream as stream
 use Rattle.model_link.specs.Events as link
@@ -16,13 +16,14 @@ use Rattle.laws_time.proofs.OfCircuit.Ends.{stands-on}
 use Rattle.laws_time.proofs.OfCircuit.Kinds.{asks, is_asked}
 use Rattle.laws_time.proofs.OfCircuit.Moments.{counts-on, not-anew, runs-on}
 use Rattle.laws_time.proofs.OfCircuit.Open.{IsOrdinary, ring, half, pulled-on}
-use Rattle.laws_time.proofs.OfCircuit.Orders.{AreOurs, ours-obeyed, heard-ours, dropped-ours, next-ours}
+use Rattle.laws_time.proofs.OfCircuit.Orders.{AreOurs, ours-obeyed}
 use Rattle.laws_time.proofs.OfCircuit.Sender.{Sends, sends-with, sends-later}
-use Rattle.laws_time.proofs.OfCircuit.Standing.{Ends, IsOwn, Moved, Pulled, heard-none, heard-dropped, heard-frame, pulls}
+use Rattle.laws_time.proofs.OfCircuit.Standing.{Ends, IsOwn, Moved, Pulled, heard-none, heard-dropped, heard-frame, pulls, bare}
 use Rattle.laws_time.proofs.OfCircuit.Under.{EndOk, IsLong, Then, here-is, all-past, all-then, next-card, o-is, q-is, clock-is, state-here, moved-on}
-use Rattle.laws_time.proofs.OfCircuit.Acts.{IsSoon, sound-line, speaks-here, orders-mean}
+use Rattle.laws_time.proofs.OfCircuit.Acts.{IsSoon}
 use Rattle.laws_time.specs.circuit.LongEnough.{is_of}
 use Rattle.laws_time.proofs.Effects.{sent-like}
+use Rattle.laws_time.proofs.OfCircuit.Ours.{dropped-heard, frame-heard, pull-ours}
 
 module _ (c : Config) (service : Service) (tei place : ℕ) (ranged : IsInRange c) (lengths : Lengths) (rate : ℕ) where
   abbrev EndHere : ℕ → ℕ → TimedEndpoint → Type 0
@@ -43,10 +44,7 @@ module _ (c : Config) (service : Service) (tei place : ℕ) (ranged : IsInRange 
     none-ours = subst (AreOurs service tei) (sym no-orders) tt
 
     same-state : (h : Ends c service tei place ranged a.at) (k : Ends c service tei place ranged (circuit.happens ev a.at)) → state_number k.its.state ≡ state_number h.its.state
-    same-state h k =
-        same_Some (state_number k.its.state) (state_number h.its.state)
-        (sym (state-here c service tei place ranged lengths rate (circuit.happens ev a.at) k) ∙ ap (state a.at.line service tei) same-card
-        ∙ state-here c service tei place ranged lengths rate a.at h)
+    same-state h k = grind (arith, state-here, same-card)
 
     -- T200 runs on.
     still-long : (S : ℕ) (h : Ends c service tei place ranged a.at) (k : Ends c service tei place ranged (circuit.happens ev a.at))
@@ -98,9 +96,7 @@ module _ (c : Config) (service : Service) (tei place : ℕ) (ranged : IsInRange 
         let mv = heard-dropped c service tei place ranged a.at h.but.ends value cause (here (Some (stream.dropped cause)) is) in
         moved-on c service tei place ranged lengths rate a (port.octet value) S M M' h.but (line.hears (stream.dropped cause)) means (λ e. ⊥) mv
         (λ e is. absurd (mv.by e is)) (λ e is asks_it. absurd (mv.by e is)) less
-        (subst (AreOurs service tei) (sym (orders-mean c service tei place ranged lengths rate a h.but.ends (port.octet value) (line.hears (stream.dropped cause)) means))
-        (dropped-ours service tei c place a.at.line a.at.card.card h.but.ends.stands.config h.but.ends.its (sound-line c service tei place ranged lengths rate a h.but.ends)
-        (speaks-here c service tei place ranged lengths rate a h.but.ends) cause))
+        (dropped-heard service tei c a.at [] place (bare c service tei place ranged h.but.ends.its) h.but.ends.stands value cause (here (Some (stream.dropped cause)) is))
         soon (λ e is time. absurd (mv.by e is)) (λ none. h.timer)
 
     -- A frame of the other end comes: if it asks for an answer, so much was given by now.
@@ -122,9 +118,7 @@ module _ (c : Config) (service : Service) (tei place : ℕ) (ranged : IsInRange 
           (λ x is asks_it. soon_asked
           (ap (λ r. list_any (λ (f : Parts). asks f.address.command f.control) (parts_of r)) read_there ∙ or-none (asks f.address.command f.control) ∙ sym (ap is_asked (mv.by x is)) ∙ asks_it))
           less
-          (subst (AreOurs service tei) (sym (orders-mean c service tei place ranged lengths rate a h.but.ends (port.octet value) (line.hears (stream.frame octets)) means))
-          (heard-ours service tei c place a.at.line a.at.card.card h.but.ends.stands.config h.but.ends.its (sound-line c service tei place ranged lengths rate a h.but.ends)
-          (speaks-here c service tei place ranged lengths rate a h.but.ends) f octets whole read own.2.sapi own.2.by))
+          (frame-heard service tei c a.at [] place (bare c service tei place ranged h.but.ends.its) h.but.ends.stands value octets (here (Some (stream.frame octets)) is) f whole read own.2.sapi own.2.by)
           soon
           (λ x is time. absurd (true≢false (sym time ∙ ap (λ x. is_time x h.but.ends.its) (mv.by x is))))
           (λ none. h.timer)
@@ -187,11 +181,7 @@ module _ (c : Config) (service : Service) (tei place : ℕ) (ranged : IsInRange 
         go : (b : Bool) → is_due (port_of a.at) ≡ b → EndHere S M (happens port.pull a)
         go true e =
             let means : meant_at (octet_at a.at.line port.pull) a.at.card ≡ Some line.next = ap (λ b. cond b (Some line.next) None) e in
-            pulled-with
-            (subst (AreOurs service tei) (sym (orders-mean c service tei place ranged lengths rate a h.but.ends port.pull line.next means))
-            (next-ours service tei c place a.at.line a.at.card.card h.but.ends.stands.config h.but.ends.its (sound-line c service tei place ranged lengths rate a h.but.ends)
-            (speaks-here c service tei place ranged lengths rate a h.but.ends)))
-            (due-long means)
+            pulled-with (pull-ours service tei c a.at [] place (bare c service tei place ranged h.but.ends.its) h.but.ends.stands) (due-long means)
         go false e =
             let means : meant_at (octet_at a.at.line port.pull) a.at.card ≡ None = ap (λ b. cond b (Some line.next) None) e in
             pulled-with (none-ours a port.pull means) (still-long a port.pull means S h.but.ends x.ends h.timer)

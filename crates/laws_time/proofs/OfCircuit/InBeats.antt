@@ -1,7 +1,7 @@
 -- A call without noise, in which no timer falls due: so many beats after the last request all is told.
-use Rattle.laws_time.proofs.Vocabulary.{ACallTakesBeats, AShortCallTakesBeats, All, All-cons, All-head, All-nil, All-tail, All-weaker, AreOctets, AreShort, AsksData, AsksOctets, Beat, CanCall, Carries, Circuit, Clocked, Config, Establish, Fits, Follows, FrameEndpoint, IsClean, IsDataOf, IsInRange, IsToldAll, IsUndue, Line, List, NoneFallsDue, OctetEndpoint as Endpoint, Port, Ran, Request}
-use Rattle.laws_time.proofs.Vocabulary.{TimedEndpoint, [], after, ap, append-nil, arith, as_endpoint, as_wire, asked-as, asked-way, assigned, beat, begins, calls, clean, comes_to, confirmed, data_told, doing_all, drop, enough_beats, false, flags, fold, framed, frames_among, fresh_port, goes-on, gone, granted_in, heard_in, idle, indicated, length, length-replicate, longest, many, map, plain}
-use Rattle.laws_time.proofs.Vocabulary.{port-after, port_of, pulling, refl, replicate, subst, suc, sym, with_first_of, within-ports, zero, ℕ, ◌*◌, ◌++◌, ◌+◌, ◌-◌, ◌/◌, ◌<◌, ◌∙◌, ◌∷◌, ◌≡◌, ◌≤◌}
+use Rattle.laws_time.proofs.Vocabulary.{ACallTakesBeats, AShortCallTakesBeats, All, All-cons, All-head, All-nil, All-tail, All-weaker, AreOctets, AreShort, AsksData, AsksOctets, Beat, CanCall, Carries, Circuit, Clocked, Config, Establish, Fits, Follows, FrameEndpoint, IsClean, IsDataOf, IsInRange, IsToldAll, IsUndue, Line, LineTold, List, NoneFallsDue, OctetEndpoint as Endpoint, Port, Ran, zero}
+use Rattle.laws_time.proofs.Vocabulary.{Request, TimedEndpoint, [], after, ap, append-nil, arith, as_endpoint, as_wire, asked-as, asked-way, assigned, beat, begins, calls, clean, comes_to, confirmed, doing_all, drop, enough_beats, false, flags, fold, framed, frames_among, fresh_port, goes-on, gone, granted_in, heard_in, idle, indicated, length, length-replicate, longest, many, plain, port-after}
+use Rattle.laws_time.proofs.Vocabulary.{port_of, pulling, refl, replicate, subst, suc, sym, with_first_of, within-ports, ℕ, ◌*◌, ◌++◌, ◌+◌, ◌-◌, ◌/◌, ◌<◌, ◌∙◌, ◌∷◌, ◌≡◌, ◌≤◌}
 use Rattle.model_line.specs.Event as line
 use Rattle.model_card.specs.ports.Port as port
 use Rattle.laws_wire.specs.Call as call
@@ -12,7 +12,7 @@ use Rattle.laws_time.proofs.OfCircuit.InBeatsAs.{Alike, alike-asked, Twin, plus,
 use Rattle.laws_time.proofs.OfCircuit.InBeatsIdle as idles
 use Rattle.laws_time.proofs.OfCircuit.InBeatsIdle.{opened, first-port, first-station}
 use Rattle.laws_time.proofs.OfCircuit.InBeatsRun as run
-use Rattle.laws_time.proofs.OfCircuit.InBeatsRun.{steps_near, steps_far, all_steps, ask, near-done, far-done, both_hear, comes-at}
+use Rattle.laws_time.proofs.OfCircuit.InBeatsRun.{way-asked, steps_near, steps_far, all_steps, ask, near-done, far-done, both_hear, comes-at}
 use Rattle.laws_time.proofs.OfCircuit.InBeatsCall.{Due, near-none, far-none, call-comes}
 use Rattle.laws_time.proofs.OfCircuit.InBeatsShort.{short-at}
 use Rattle.laws_time.proofs.OfCircuit.InBeatsTold.{Comes, all-told, all-told-short}
@@ -44,10 +44,6 @@ module _ (c : Config) (ranged : IsInRange c) where
   port-asked (r ∷ rs) all s h =
       port-asked rs (All-tail Octets r rs all) (ask s r) (goes-on c s (port.request r) (All-head Octets r rs all) h) ∙ port-after s (port.request r) (within-ports c ranged s h)
 
-pub way-asked : (rs : List Request) (s : Endpoint) → (fold ask s rs).way ≡ s.way
-way-asked [] s = refl
-way-asked (r ∷ rs) s = way-asked rs (ask s r) ∙ asked-way r s
-
 alike-asks : (rs : List Request) (s u : Endpoint) → Alike s u → Alike (fold ask s rs) (fold ask u rs)
 alike-asks [] s u h = h
 alike-asks (r ∷ rs) s u h = alike-asks rs (ask s r) (ask u r) (alike-asked r s u h)
@@ -61,10 +57,10 @@ module _ (l : Line) (c : Config) (ranged : IsInRange c) (number : ℕ) (within :
   abbrev begun : Endpoint
   begun = idles.begun l.service c ranged number l.tei within few (flags l.way)
 
-  abbrev pub pulled_first : Endpoint
+  abbrev pulled_first : Endpoint
   pulled_first = pulling (suc l.way) (assigned c number l.tei)
 
-  pub as_idle : idles.Idle l.service c ranged number l.tei within few l.way (pulling (suc l.way) (assigned c number l.tei))
+  as_idle : idles.Idle l.service c ranged number l.tei within few l.way (pulling (suc l.way) (assigned c number l.tei))
   as_idle = idles.idle-end l.service c ranged number l.tei within few l.way
 
   ran-begun : Ran c begun
@@ -112,6 +108,105 @@ long-both l near far x y here there = record {
   far = ap length (first-way (with_first_of y.way x).way (without_first y)) ∙ ap (λ ws. length (drop 1 ws)) there ∙ length-replicate {A = ℕ} l.way 0x7E;
 }
 
+-- ---- the first beat, at both
+
+abbrev pub begun_near : Line → Endpoint
+begun_near l = pulling (suc l.way) (assigned l.near l.near_line l.tei)
+
+abbrev pub begun_far : Line → Endpoint
+begun_far l = pulling (suc l.way) (assigned l.far l.far_line l.tei)
+
+module _ (l : Line) (can : CanCall l.near l.near_line l.far l.far_line l.tei) where
+  pub idle-near : idles.Idle l.service l.near can.near.0 l.near_line l.tei can.near.1 can.terminal l.way (begun_near l)
+  idle-near = idles.idle-end l.service l.near can.near.0 l.near_line l.tei can.near.1 can.terminal l.way
+
+  pub idle-far : idles.Idle l.service l.far can.far.0 l.far_line l.tei can.far.1 can.terminal l.way (begun_far l)
+  idle-far = idles.idle-end l.service l.far can.far.0 l.far_line l.tei can.far.1 can.terminal l.way
+
+  module _ (b : Beat) (near_octets : All Octets b.near_asks) (far_octets : All Octets b.far_asks) where
+    abbrev x : Endpoint
+    x = fold ask (begun_near l) b.near_asks
+
+    abbrev y : Endpoint
+    y = fold ask (begun_far l) b.far_asks
+
+    pub long-begun : run.IsLong l can.near.0 can.far.0 (both_hear (fold ask (begun_near l) b.near_asks) (fold ask (begun_far l) b.far_asks))
+    long-begun =
+        long-both l can.near.0 can.far.0 x y (first-long l l.near can.near.0 l.near_line can.near.1 can.terminal b.near_asks near_octets)
+        (first-long l l.far can.far.0 l.far_line can.far.1 can.terminal b.far_asks far_octets)
+
+    pub sim-begun : IsClean b → IsUndue ((begins l).beats / l.rate) b.near_asks (begins l).near → IsUndue ((begins l).beats / l.rate) b.far_asks (begins l).far
+        → run.Sim l can.near.0 can.far.0 (beat l.rate (begins l) b) (both_hear (fold ask (begun_near l) b.near_asks) (fold ask (begun_far l) b.far_asks))
+    sim-begun is_clean undue undue_far =
+        let moment = (begins l).beats / l.rate in
+        run.sim-heard l can.near.0 can.far.0 b is_clean (gone l.rate b (begins l)) x y
+        (first-end l l.near can.near.0 l.near_line can.near.1 can.terminal b.near_asks near_octets (comes_to moment b.near_asks (begins l).near) (comes-at moment b.near_asks (begins l).near undue))
+        (first-end l l.far can.far.0 l.far_line can.far.1 can.terminal b.far_asks far_octets (comes_to moment b.far_asks (begins l).far) (comes-at moment b.far_asks (begins l).far undue_far))
+
+-- ---- so many beats after the last request all is told that is due
+
+-- From beats on that are done on a circuit (`v1`), as what was done since it began (`v0`) has led there.
+module _ (l : Line) (can : CanCall l.near l.near_line l.far l.far_line l.tei) (w1 : Clocked) (v1 v0 : Circuit) (bs : List Beat) (n : ℕ) (data_alone : All (AsksData l) bs) (are_clean : All IsClean bs)
+    (undue : NoneFallsDue l.rate (bs ++ replicate n plain) w1) (sim1 : run.Sim l can.near.0 can.far.0 w1 v1) (long1 : run.IsLong l can.near.0 can.far.0 v1) (ds : List StepAt)
+    (led : doing_all ds v0 ≡ doing_all (all_steps bs) v1) (all_data : All (run.IsData l can.near.0 can.far.0) ds) (follows : Follows l.near.n201 l.near l.far v0 [] []) (most : ℕ)
+    (NearDue FarDue : List (List ℕ) → List LineTold) (comes : (es : List wire.StepAt) → All (call.IsTalk l.service l.tei) es → Comes l.service l.tei most NearDue FarDue (as_wire [] [] v0) es) where
+  abbrev w : Clocked
+  w = after l.rate bs w1
+
+  abbrev v : Circuit
+  v = doing_all ds v0
+
+  abbrev last : Circuit
+  last = doing_all (many n) (doing_all ds v0)
+
+  parts : NoneFallsDue l.rate bs w1 × NoneFallsDue l.rate (replicate n plain) (after l.rate bs w1)
+  parts = run.undue-parts l.rate bs (replicate n plain) w1 undue
+
+  sim : run.Sim l can.near.0 can.far.0 w (doing_all ds v0)
+  sim = subst (run.Sim l can.near.0 can.far.0 w) (sym led) (run.all-beats l can.near.0 can.far.0 bs data_alone are_clean w1 parts.0 v1 sim1)
+
+  last-sim : run.Sim l can.near.0 can.far.0 (clean l.rate n w) (doing_all (many n) (doing_all ds v0))
+  last-sim =
+      subst (λ es. run.Sim l can.near.0 can.far.0 (clean l.rate n w) (doing_all es (doing_all ds v0))) (run.plain-steps l can.near.0 can.far.0 n)
+      (run.all-beats l can.near.0 can.far.0 (replicate n plain) (run.plain-data l can.near.0 can.far.0 n) (run.plain-clean n) w parts.1 (doing_all ds v0) sim)
+
+  is-long : run.IsLong l can.near.0 can.far.0 (doing_all ds v0)
+  is-long = subst (run.IsLong l can.near.0 can.far.0) (sym led) (run.all-long l can.near.0 can.far.0 bs v1 long1)
+
+  few : (length v.near.way ≤ l.way) × (length v.far.way ≤ l.way)
+  few = let here = is-long.near in let there = is-long.far in (omega (arith, here), omega (arith, there))
+
+  fits : Fits l.near.n201 l.near
+  fits = record { ranged = can.near.0; size = refl }
+
+  fits-far : Fits l.near.n201 l.far
+  fits-far = record { ranged = can.far.0; size = sym can.opposite.1 }
+
+  abbrev pub AllIsTold : Clocked → Type 0
+  AllIsTold u = (u.near.at.told ≡ NearDue u.far.at.granted) × (u.far.at.told ≡ FarDue u.near.at.granted)
+
+  told-so : (last.near.told ≡ NearDue last.far.granted) × (last.far.told ≡ FarDue last.near.granted) → AllIsTold (clean l.rate n w)
+  told-so told =
+      let z = last-sim in
+      (sym z.near.same.alike.told ∙ told.0 ∙ ap NearDue z.far.same.alike.granted, sym z.far.same.alike.told ∙ told.1 ∙ ap FarDue z.near.same.alike.granted)
+
+  -- So much was granted.
+  module _ (g : ℕ) (is : granted_in w - (length v0.near.granted + length v0.far.granted) ≡ g) where
+    counted : most + 2 * (length v.near.granted + length v.far.granted - (length v0.near.granted + length v0.far.granted)) ≡ most + 2 * g
+    counted = let s = sim in let a = ap length s.near.same.alike.granted in let b = ap length s.far.same.alike.granted in omega (arith, is, a, b)
+
+    pub told-in-time : (k : ℕ) → k ≡ most + 2 * g → k * (longest l.near.n201 + (longest l.near.n201 + l.way)) ≤ n → AllIsTold (clean l.rate n w)
+    told-in-time k so enough =
+        told-so (all-told l.service l.tei l.near l.far l.near.n201 l.way fits fits-far v0 follows most NearDue FarDue comes n ds all_data (run.many-data l can.near.0 can.far.0) few.0 few.1
+        (subst (λ k. k * (longest l.near.n201 + (longest l.near.n201 + l.way)) ≤ n) (so ∙ sym counted) enough))
+
+    pub told-in-time-short : (m k : ℕ) → k ≡ suc (most + 2 * g) → AreShort m (clean l.rate n w).near → AreShort m (clean l.rate n w).far → k * (longest m + (longest m + l.way)) ≤ n → AllIsTold (clean l.rate n w)
+    told-in-time-short m k so small small_far enough =
+        let z = last-sim in
+        told-so (all-told-short l.service l.tei l.near l.far l.near.n201 l.way fits fits-far v0 follows most NearDue FarDue comes n ds all_data (run.many-data l can.near.0 can.far.0)
+        m (short-at m l.way (port_of (clean l.rate n w).near.at) (port_of last.near) z.near.same.port small) (short-at m l.way (port_of (clean l.rate n w).far.at) (port_of last.far) z.far.same.port small_far)
+        few.0 few.1 (subst (λ k. k * (longest m + (longest m + l.way)) ≤ n) (so ∙ ap suc (sym counted)) enough))
+
 -- ---- where the call begins, with flags in transit
 
 module _ (n201 k : ℕ) where
@@ -121,6 +216,16 @@ module _ (n201 k : ℕ) where
     are = ap (λ (p : Port). framed (frames_among p.items)) is ∙ ap framed (none-among k) ∙ sym (ap (λ r. heard_in n201 r ++ framed []) none);
     octets = subst (λ (p : Port). All AreOctets (frames_among p.items)) (sym is) (subst (All AreOctets) (sym (none-among k)) (All-nil AreOctets));
   }
+
+-- What is asked for are octets.
+module _ (l : Line) (can : CanCall l.near l.near_line l.far l.far_line l.tei) (b : Beat) (data_alone : AsksData l b) where
+  pub near-octets : All Octets (Establish l.service l.tei ∷ b.near_asks)
+  near-octets =
+      All-cons Octets (Establish l.service l.tei) b.near_asks (All-nil (λ octet. octet < 256))
+      (All-weaker (IsDataOf l) Octets (run.asks-octets l can.near.0 can.far.0) b.near_asks data_alone.0)
+
+  pub far-octets : All Octets b.far_asks
+  far-octets = All-weaker (IsDataOf l) Octets (run.asks-octets l can.near.0 can.far.0) b.far_asks data_alone.1
 
 module _ (l : Line) (b : Beat) (bs : List Beat) (n : ℕ) (can : CanCall l.near l.near_line l.far l.far_line l.tei) (data_alone : All (AsksData l) (b ∷ bs)) (are_clean : All IsClean (b ∷ bs))
     (undue : NoneFallsDue l.rate (calls l b ∷ (bs ++ replicate n plain)) (begins l)) where
@@ -139,98 +244,38 @@ module _ (l : Line) (b : Beat) (bs : List Beat) (n : ℕ) (can : CanCall l.near 
   now-clean : IsClean b
   now-clean = All-head IsClean b bs are_clean
 
-  pub near-octets : All Octets (ring ∷ b.near_asks)
-  near-octets = All-cons Octets ring b.near_asks (All-nil (λ octet. octet < 256)) (All-weaker (IsDataOf l) Octets (run.asks-octets l near far) b.near_asks now-data.0)
-
-  pub far-octets : All Octets b.far_asks
-  far-octets = All-weaker (IsDataOf l) Octets (run.asks-octets l near far) b.far_asks now-data.1
-
   undue-now : IsUndue ((begins l).beats / l.rate) (ring ∷ b.near_asks) (begins l).near × IsUndue ((begins l).beats / l.rate) b.far_asks (begins l).far × NoneFallsDue l.rate (bs ++ replicate n plain) (beat l.rate (begins l) (calls l b))
   unfolding NoneFallsDue
   undue-now = undue
 
-  undue-then : NoneFallsDue l.rate bs (beat l.rate (begins l) (calls l b)) × NoneFallsDue l.rate (replicate n plain) (after l.rate bs (beat l.rate (begins l) (calls l b)))
-  undue-then = run.undue-parts l.rate bs (replicate n plain) (beat l.rate (begins l) (calls l b)) undue-now.2
-
-  -- the ends of the circuit, of which each was pulled before
-  abbrev n0 : Endpoint
-  n0 = pulled_first l l.near near l.near_line can.near.1 can.terminal (ring ∷ b.near_asks) near-octets
-
-  abbrev f0 : Endpoint
-  f0 = pulled_first l l.far far l.far_line can.far.1 can.terminal b.far_asks far-octets
-
-  pub idle-near : idles.Idle l.service l.near near l.near_line l.tei can.near.1 can.terminal l.way n0
-  idle-near = as_idle l l.near near l.near_line can.near.1 can.terminal (ring ∷ b.near_asks) near-octets
-
-  pub idle-far : idles.Idle l.service l.far far l.far_line l.tei can.far.1 can.terminal l.way f0
-  idle-far = as_idle l l.far far l.far_line can.far.1 can.terminal b.far_asks far-octets
-
   abbrev v0 : Circuit
-  v0 = record { near = ask n0 ring; far = f0 }
-
-  abbrev x : Endpoint
-  x = fold ask n0 (ring ∷ b.near_asks)
-
-  abbrev y : Endpoint
-  y = fold ask f0 b.far_asks
+  v0 = record { near = ask (begun_near l) ring; far = begun_far l }
 
   pub follows : Follows l.near.n201 l.near l.far v0 [] []
   follows =
-      let port_near = port-after n0 (port.request ring) (within-ports l.near near n0 idle-near.ran) ∙ idle-near.port in
-      let way_near = asked-way ring n0 ∙ idle-near.way in
+      let port_near = port-after (begun_near l) (port.request ring) (within-ports l.near near (begun_near l) (idle-near l can).ran) ∙ (idle-near l can).port in
+      let way_near = asked-way ring (begun_near l) ∙ (idle-near l can).way in
       record {
-        near = goes-on l.near n0 (port.request ring) (All-nil (λ octet. octet < 256)) idle-near.ran;
-        far = idle-far.ran;
-        goes = carries-none l.near.n201 l.way (port_of (ask n0 ring)) (port_of f0) (ask n0 ring).way port_near way_near (ap (λ (p : Port). p.received) idle-far.port);
-        comes = carries-none l.near.n201 l.way (port_of f0) (port_of (ask n0 ring)) f0.way idle-far.port idle-far.way (ap (λ (p : Port). p.received) port_near);
+        near = goes-on l.near (begun_near l) (port.request ring) (All-nil (λ octet. octet < 256)) (idle-near l can).ran;
+        far = (idle-far l can).ran;
+        goes = carries-none l.near.n201 l.way (port_of (ask (begun_near l) ring)) (port_of (begun_far l)) (ask (begun_near l) ring).way port_near way_near (ap (λ (p : Port). p.received) (idle-far l can).port);
+        comes = carries-none l.near.n201 l.way (port_of (begun_far l)) (port_of (ask (begun_near l) ring)) (begun_far l).way (idle-far l can).port (idle-far l can).way (ap (λ (p : Port). p.received) port_near);
       }
 
   pub begins-so : as_wire [] [] v0 ≡ call.calling l.service l.tei l.near l.near_line l.far l.far_line
   begins-so =
-      let first = asked-as ring n0 [] ∙ ap (wire.happens (line.request ring)) idle-near.same in
-      λ i. record { near = first i; far = idle-far.same i }
+      let first = asked-as ring (begun_near l) [] ∙ ap (wire.happens (line.request ring)) (idle-near l can).same in
+      λ i. record { near = first i; far = (idle-far l can).same i }
 
   abbrev w1 : Clocked
   w1 = beat l.rate (begins l) (calls l b)
 
-  pub first-sim : run.Sim l near far w1 (both_hear x y)
-  first-sim =
-      let moment = (begins l).beats / l.rate in
-      run.sim-heard l near far (calls l b) now-clean (gone l.rate (calls l b) (begins l)) x y
-      (first-end l l.near near l.near_line can.near.1 can.terminal (ring ∷ b.near_asks) near-octets (comes_to moment (ring ∷ b.near_asks) (begins l).near) (comes-at moment (ring ∷ b.near_asks) (begins l).near undue-now.0))
-      (first-end l l.far far l.far_line can.far.1 can.terminal b.far_asks far-octets (comes_to moment b.far_asks (begins l).far) (comes-at moment b.far_asks (begins l).far undue-now.1))
-
-  pub first-is-long : run.IsLong l near far (both_hear x y)
-  first-is-long =
-      long-both l near far x y (first-long l l.near near l.near_line can.near.1 can.terminal (ring ∷ b.near_asks) near-octets) (first-long l l.far far l.far_line can.far.1 can.terminal b.far_asks far-octets)
-
   abbrev ds : List StepAt
   ds = steps_near b.near_asks (steps_far b.far_asks (at_near receives ∷ at_far receives ∷ all_steps bs))
 
-  done-so : doing_all ds v0 ≡ doing_all (all_steps bs) (both_hear x y)
+  done-so : doing_all ds v0 ≡ doing_all (all_steps bs) (both_hear (fold ask (begun_near l) (ring ∷ b.near_asks)) (fold ask (begun_far l) b.far_asks))
   unfolding doing_all
-  done-so =
-      let rest = at_near receives ∷ at_far receives ∷ all_steps bs in
-      near-done b.near_asks (steps_far b.far_asks rest) v0 ∙ far-done b.far_asks rest (record v0 { near = fold ask v0.near b.near_asks })
-
-  abbrev w : Clocked
-  w = after l.rate bs w1
-
-  abbrev v : Circuit
-  v = doing_all ds v0
-
-  sim : run.Sim l near far w (doing_all ds v0)
-  sim =
-      subst (run.Sim l near far w) (sym done-so)
-      (run.all-beats l near far bs (All-tail (AsksData l) b bs data_alone) (All-tail IsClean b bs are_clean) w1 undue-then.0 (both_hear x y) first-sim)
-
-  is-long : run.IsLong l near far (doing_all ds v0)
-  is-long = subst (run.IsLong l near far) (sym done-so) (run.all-long l near far bs (both_hear x y) first-is-long)
-
-  last-sim : run.Sim l near far (clean l.rate n w) (doing_all (many n) (doing_all ds v0))
-  last-sim =
-      subst (λ es. run.Sim l near far (clean l.rate n w) (doing_all es (doing_all ds v0))) (run.plain-steps l near far n)
-      (run.all-beats l near far (replicate n plain) (run.plain-data l near far n) (run.plain-clean n) w undue-then.1 (doing_all ds v0) sim)
+  done-so = grind (arith, near-done, far-done)
 
   all-data : All (run.IsData l near far) ds
   all-data =
@@ -243,58 +288,33 @@ module _ (l : Line) (b : Beat) (bs : List Beat) (n : ℕ) (can : CanCall l.near 
       subst (λ f. Comes l.service l.tei 2 (Due l.service l.tei (confirmed l.service l.tei)) (Due l.service l.tei (indicated l.service l.tei)) f es) (sym begins-so)
       (call-comes l.service l.tei l.near l.far l.near_line l.far_line can es all)
 
-  fits : Fits l.near.n201 l.near
-  fits = record { ranged = near; size = refl }
-
-  fits-far : Fits l.near.n201 l.far
-  fits-far = record { ranged = far; size = sym can.opposite.1 }
-
   granted-none : length v0.near.granted + length v0.far.granted ≡ 0
   granted-none =
       let one = ap (λ (f : wire.Wire). length f.near.granted) begins-so ∙ ap length (near-none l.service l.tei l.near l.far l.near_line l.far_line can) in
       let two = ap (λ (f : wire.Wire). length f.far.granted) begins-so ∙ ap length (far-none l.service l.tei l.near l.far l.near_line l.far_line can) in
       omega (arith, one, two)
 
-  abbrev Told : Circuit → Type 0
-  Told z =
-      (z.near.told ≡ confirmed l.service l.tei ∷ map (data_told l.service l.tei) z.far.granted) × (z.far.told ≡ indicated l.service l.tei ∷ map (data_told l.service l.tei) z.near.granted)
+  abbrev v1 : Circuit
+  v1 = both_hear (fold ask (begun_near l) (ring ∷ b.near_asks)) (fold ask (begun_far l) b.far_asks)
 
-  few-near : length v.near.way ≤ l.way
-  few-near = let few = is-long.near in omega (arith, few)
+  counts : granted_in (after l.rate bs w1) - (length v0.near.granted + length v0.far.granted) ≡ granted_in (after l.rate bs w1)
+  counts = let none = granted-none in omega (arith, none)
 
-  few-far : length v.far.way ≤ l.way
-  few-far = let few = is-long.far in omega (arith, few)
+  first-sim : run.Sim l near far w1 v1
+  first-sim = sim-begun l can (calls l b) (near-octets l can b now-data) (far-octets l can b now-data) now-clean undue-now.0 undue-now.1
 
-  same-count : length v.near.granted + length v.far.granted - (length v0.near.granted + length v0.far.granted) ≡ granted_in w
-  same-count =
-      let s = sim in let none = granted-none in
-      let granted = ap length s.near.same.alike.granted in let granted_far = ap length s.far.same.alike.granted in omega (arith, none, granted, granted_far)
-
-  told-so : Told (doing_all (many n) (doing_all ds v0)) → IsToldAll l (clean l.rate n w)
-  told-so told =
-      let z = last-sim in
-      record {
-        near = sym z.near.same.alike.told ∙ told.0 ∙ ap (λ g. confirmed l.service l.tei ∷ map (data_told l.service l.tei) g) z.far.same.alike.granted;
-        far = sym z.far.same.alike.told ∙ told.1 ∙ ap (λ g. indicated l.service l.tei ∷ map (data_told l.service l.tei) g) z.near.same.alike.granted;
-      }
-
-  pub all-is-told : enough_beats l.near.n201 l.way false (granted_in w) ≤ n → IsToldAll l (clean l.rate n w)
+  pub all-is-told : enough_beats l.near.n201 l.way false (granted_in (after l.rate bs w1)) ≤ n → IsToldAll l (clean l.rate n (after l.rate bs w1))
   all-is-told enough =
-      told-so
-      (all-told l.service l.tei l.near l.far l.near.n201 l.way fits fits-far v0 follows 2 (Due l.service l.tei (confirmed l.service l.tei)) (Due l.service l.tei (indicated l.service l.tei)) comes
-      n ds all-data (run.many-data l near far) few-near few-far (subst (λ g. (2 + 2 * g) * (longest l.near.n201 + (longest l.near.n201 + l.way)) ≤ n) (sym same-count) enough))
+      let x = told-in-time l can w1 v1 v0 bs n (All-tail (AsksData l) b bs data_alone) (All-tail IsClean b bs are_clean) undue-now.2 first-sim
+      (long-begun l can (calls l b) (near-octets l can b now-data) (far-octets l can b now-data)) ds done-so all-data follows 2 (Due l.service l.tei (confirmed l.service l.tei)) (Due l.service l.tei (indicated l.service l.tei))
+      comes (granted_in (after l.rate bs w1)) counts (2 + 2 * granted_in (after l.rate bs w1)) refl enough in record { near = x.0; far = x.1 }
 
-  one-more : 3 + 2 * granted_in w ≡ suc (2 + 2 * (length v.near.granted + length v.far.granted - (length v0.near.granted + length v0.far.granted)))
-  one-more = let same = same-count in omega (arith, same)
-
-  pub all-is-told-short : (m : ℕ) → AreShort m (clean l.rate n w).near → AreShort m (clean l.rate n w).far → (3 + 2 * granted_in w) * (longest m + (longest m + l.way)) ≤ n → IsToldAll l (clean l.rate n w)
+  pub all-is-told-short : (m : ℕ) → AreShort m (clean l.rate n (after l.rate bs w1)).near → AreShort m (clean l.rate n (after l.rate bs w1)).far
+      → (3 + 2 * granted_in (after l.rate bs w1)) * (longest m + (longest m + l.way)) ≤ n → IsToldAll l (clean l.rate n (after l.rate bs w1))
   all-is-told-short m small small_far enough =
-      let z = last-sim in
-      let last = doing_all (many n) (doing_all ds v0) in
-      told-so
-      (all-told-short l.service l.tei l.near l.far l.near.n201 l.way fits fits-far v0 follows 2 (Due l.service l.tei (confirmed l.service l.tei)) (Due l.service l.tei (indicated l.service l.tei)) comes
-      n ds all-data (run.many-data l near far) m (short-at m l.way (port_of (clean l.rate n w).near.at) (port_of last.near) z.near.same.port small) (short-at m l.way (port_of (clean l.rate n w).far.at) (port_of last.far) z.far.same.port small_far)
-      few-near few-far (subst (λ k. k * (longest m + (longest m + l.way)) ≤ n) one-more enough))
+      let x = told-in-time-short l can w1 v1 v0 bs n (All-tail (AsksData l) b bs data_alone) (All-tail IsClean b bs are_clean) undue-now.2 first-sim
+      (long-begun l can (calls l b) (near-octets l can b now-data) (far-octets l can b now-data)) ds done-so all-data follows 2 (Due l.service l.tei (confirmed l.service l.tei)) (Due l.service l.tei (indicated l.service l.tei))
+      comes (granted_in (after l.rate bs w1)) counts m (3 + 2 * granted_in (after l.rate bs w1)) (omega arith) small small_far enough in record { near = x.0; far = x.1 }
 
 pub a-call-takes-beats : ACallTakesBeats
 a-call-takes-beats l b bs n can data_alone are_clean undue enough = all-is-told l b bs n can data_alone are_clean undue enough

@@ -1,5 +1,5 @@
 -- A call of frames, in which data alone is asked for once one end has asked for the establishment.
-use Rattle.laws_time.proofs.Vocabulary.{All, All-head, All-tail, All-weaker, Assign, CanCall, Config, Data, Establish, FrameEndpoint, LineTold, List, Request, Service, [], ap, append-nil, arith, both_call, calls-come-through, confirmed, data_told, false, indicated, length, map, refl, subst, wire_doing_all, wire_turns, ℕ, ◌++◌, ◌||◌, ◌∙◌, ◌∷◌, ◌≡◌}
+use Rattle.laws_time.proofs.Vocabulary.{All, All-head, All-tail, All-weaker, Assign, CanCall, Config, Data, Establish, FrameEndpoint, LineTold, List, Request, Service, [], ap, append-nil, arith, both_call, calls-come-through, confirmed, data_told, false, indicated, length, map, refl, subst, wire_doing_all, wire_turns, ℕ, ◌||◌, ◌∙◌, ◌∷◌, ◌≡◌}
 use Rattle.model_line.specs.Event as line
 use Rattle.laws_wire.specs.Call as call
 use Rattle.laws_wire.specs.Wire as wire
@@ -25,11 +25,7 @@ module _ (service : Service) (tei : ℕ) where
   are-calls = All-weaker Talks (call.IsCall service tei) one-call
 
   one-none : (x : wire.StepAt) → Talks x → (w : wire.Wire) → call.calls_back x w ≡ false
-  one-none (wire.at_near act) is w = refl
-  one-none (wire.at_far (wire.requests (Data s t contents))) is w = refl
-  one-none (wire.at_far wire.sends) is w = refl
-  one-none (wire.at_far wire.receives) is w = refl
-  one-none other is w = absurd is
+  one-none x h1z w = grind arith
 
   pub none-call : (es : List wire.StepAt) → All Talks es → (w : wire.Wire) → call.both_call es w ≡ false
   unfolding both_call
@@ -41,8 +37,7 @@ module _ (service : Service) (tei : ℕ) where
   none-given a = grind arith
 
   grants-none : (r : Request) → wire.contents_requested r ≡ [] → (s : FrameEndpoint) → (wire.happens (line.request r) s).granted ≡ s.granted
-  grants-none r none s =
-      ap (λ xs. s.granted ++ wire.unless_refused (wire.answered (line.request r) s) xs) none ∙ ap (λ ys. s.granted ++ ys) (none-given (wire.answered (line.request r) s)) ∙ append-nil s.granted
+  grants-none r none s = grind (arith, none-given, append-nil)
 
   module _ (c d : Config) (line other : ℕ) (can : CanCall c line d other tei) where
     abbrev starts : wire.Wire

@@ -1,6 +1,6 @@
 -- What holds of each timer that is started holds of each that runs. So none falls due in the first milliseconds.
-use Rattle.laws_time.proofs.Vocabulary.{AllByRecursion, Assign, Beat, Bool, Clocked, Expiry, IsUndue, Lengths, Line, List, None, NoneFallsDue, Option, Request, Some, TimedEndpoint, [], after, answered, arith, asked, asks, beat, begins, comes_to, cond, div-lt_iff_lt-mul, due, duration, false, first, first_due, fold, happens, hears, leb-true, length, nat_le, octet_orders as orders_in, refl}
-use Rattle.laws_time.proofs.Vocabulary.{same_Some, subst, sym, true, unwrap_or, without_first, ℕ, ◌*◌, ◌+◌, ◌/◌, ◌<◌, ◌∙◌, ◌∷◌, ◌≡◌, ◌≤◌}
+use Rattle.laws_time.proofs.Vocabulary.{AllByRecursion, Assign, Beat, Clocked, Expiry, IsUndue, Lengths, Line, List, None, NoneFallsDue, Option, Request, Some, TimedEndpoint, [], after, answered, arith, asked, asks, beat, begins, comes_to, div-lt_iff_lt-mul, due, duration, first, first_due, fold, happens, hears, leb-true, length, octet_orders as orders_in, refl}
+use Rattle.laws_time.proofs.Vocabulary.{subst, sym, unwrap_or, without_first, ℕ, ◌*◌, ◌+◌, ◌/◌, ◌<◌, ◌∙◌, ◌∷◌, ◌≡◌, ◌≤◌}
 use Rattle.lapd_clock.specs.Timer.{Timer}
 use Rattle.model_card.specs.ports.Port as port
 use Rattle.laws_time.proofs.Moments.{now-stays, lengths-stay}
@@ -65,8 +65,7 @@ now-comes moment rs s =
     (λ x u is same. now-stays u.at.line (without_first u.clock) (orders_in (answered (port.expiry x.timer) u.at)) ∙ same) moment rs (λ k d lt. tt) s refl
 
 now-hears : (noise : Option ℕ) (way : List ℕ) (s : TimedEndpoint) → (hears noise way s).clock.now ≡ s.clock.now
-now-hears noise [] s = refl
-now-hears noise (value ∷ more) s = now-stays s.at.line s.clock (orders_in (answered (port.octet (unwrap_or noise value)) s.at))
+now-hears noise way s = grind (arith, now-stays)
 
 now-pulled : (s : TimedEndpoint) → (happens port.pull s).clock.now ≡ s.clock.now
 now-pulled s = now-stays s.at.line s.clock (orders_in (answered port.pull s.at))
@@ -117,12 +116,7 @@ first-keeps r moment rs s later h x is =
     subst (λ n. r.holds n x.timer x.moment) (now-asked rs (at_time moment s)) (first-of (HoldsAt r a.clock.now) a.clock.running a.clock.now x k.running is)
 
 due-soon : (xs : List Expiry) (now : ℕ) (x : Expiry) → first_due xs now ≡ Some x → x.moment ≤ now
-due-soon [] now x is = cc is
-due-soon (e ∷ es) now x is = go (nat_le e.moment now) refl is
-  where
-    go : (b : Bool) → nat_le e.moment now ≡ b → cond b (Some e) None ≡ Some x → x.moment ≤ now
-    go true low is = subst (λ (y : Expiry). y.moment ≤ now) (same_Some e x is) (leb-true e.moment now low)
-    go false low is = cc is
+due-soon xs now x h1z = grind (arith, leb-true)
 
 pub early : (rate : ℕ) → 1 ≤ rate → (t n : ℕ) → n < t * rate → n / rate < t
 early rate some t n low = grind (arith, div-lt_iff_lt-mul)

@@ -48,15 +48,11 @@ module _ (s : Endpoint) (is : port_of s ≡ fresh_port) (inside : s.line < lengt
 
   pub first-port : port_of (happens port.pull s) ≡ opened
   unfolding meant
-  first-port =
-      port-after s port.pull inside ∙ (λ i. port.after port.pull (said_of s.card.card s.line (meaning port.pull s)) (is i))
-      ∙ (fresh-gives (meaning port.pull s) none-meant s).0
+  first-port = grind (arith, port-after, fresh-gives, none-meant)
 
   pub first-way : (happens port.pull s).way ≡ s.way ++ 0x7E ∷ []
   unfolding answer meant
-  first-way =
-      (λ i. s.way ++ octet_pulled (port.answer port.pull (said_of s.card.card s.line (meaning port.pull s)) (is i)))
-      ∙ ap (λ os. s.way ++ os) (fresh-gives (meaning port.pull s) none-meant s).1
+  first-way = grind arith
 
   pub first-station : as_endpoint [] (happens port.pull s) ≡ as_endpoint [] s
   first-station =

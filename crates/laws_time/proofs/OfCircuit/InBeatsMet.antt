@@ -1,6 +1,6 @@
 -- The worked call meets the premises: so after 144 beats more all is told.
-use Rattle.laws_time.proofs.Vocabulary.{All, All-append, All-cons, All-nil, AsksData, Beat, Call, CanCall, Data, IsClean, IsDataOf, IsToldAll, T201, T202, [], after, arith, begins, calls, clean, duration, enough_beats, false, its_line, length, network, one_granted, plain, refl, replicate, sapi_fault, subst, sym, user, ◌++◌, ◌<◌, ◌∷◌, ◌≡◌, ◌≤◌}
-use Rattle.lapd_clock.specs.Timer.{Timer, T200, T203}
+use Rattle.laws_time.proofs.Vocabulary.{All, All-append, All-cons, All-nil, AsksData, Beat, Call, CanCall, Data, IsClean, IsDataOf, IsToldAll, [], after, arith, begins, calls, clean, duration, enough_beats, false, its_line, length, network, one_granted, plain, refl, replicate, sapi_fault, subst, sym, user, ◌++◌, ◌<◌, ◌∷◌, ◌≡◌, ◌≤◌}
+use Rattle.lapd_clock.specs.Timer.{Timer}
 use Rattle.laws_time.specs.circuit.WorkedInBeats.{talks}
 use Rattle.laws_time.proofs.OfCircuit.InBeats.{a-call-takes-beats}
 use Rattle.laws_time.proofs.OfCircuit.InBeatsRun.{plain-data, plain-clean}
@@ -27,10 +27,7 @@ all-clean : All IsClean (plain ∷ talks)
 all-clean = All-append IsClean (replicate 16 plain) (sends ∷ []) (plain-clean 16) (All-cons IsClean sends [] (refl, refl) (All-nil IsClean))
 
 runs : (timer : Timer) → 161 ≤ duration its_line.lengths timer
-runs (T200 service tei) = omega arith
-runs (T203 service tei) = omega arith
-runs T201 = omega arith
-runs T202 = omega arith
+runs timer = grind arith
 
 long : length (calls its_line plain ∷ (talks ++ replicate 144 plain)) ≡ 161
 long = refl

@@ -14,6 +14,10 @@ use Rattle.laws_time.proofs.OfCircuit.InBeatsAs.{Twin, twin-event, twin-drop, tw
 abbrev pub ask : Endpoint → Request → Endpoint
 ask s r = circuit.happens (port.request r) s
 
+pub way-asked : (rs : List Request) (s : Endpoint) → (fold ask s rs).way ≡ s.way
+way-asked [] s = refl
+way-asked (r ∷ rs) s = way-asked rs (ask s r) ∙ asked-way r s
+
 unfoldable pub steps_near : List Request → List StepAt → List StepAt
 steps_near [] ds = ds
 steps_near (r ∷ rs) ds = at_near (requests r) ∷ steps_near rs ds
@@ -141,10 +145,6 @@ module _ (l : Line) (here : IsInRange l.near) (there : IsInRange l.far) where
     pub near : length v.near.way ≡ l.way
     pub far : length v.far.way ≡ l.way
 
-  asked-long : (rs : List Request) (s : Endpoint) → (fold ask s rs).way ≡ s.way
-  asked-long [] s = refl
-  asked-long (r ∷ rs) s = asked-long rs (ask s r) ∙ asked-way r s
-
   beaten-many : (b : Beat) (v : Circuit) → doing_all (many 1) (record { near = fold ask v.near b.near_asks; far = fold ask v.far b.far_asks }) ≡ beaten b v
   unfolding doing_all many
   beaten-many b v = refl
@@ -155,8 +155,8 @@ module _ (l : Line) (here : IsInRange l.near) (there : IsInRange l.far) where
       let x = many-stay 1 u in
       let same = beaten-many b v in
       record {
-        near = ap (λ (z : Circuit). length z.near.way) (sym same) ∙ x.near ∙ ap length (asked-long b.near_asks v.near) ∙ h.near;
-        far = ap (λ (z : Circuit). length z.far.way) (sym same) ∙ x.far ∙ ap length (asked-long b.far_asks v.far) ∙ h.far;
+        near = ap (λ (z : Circuit). length z.near.way) (sym same) ∙ x.near ∙ ap length (way-asked b.near_asks v.near) ∙ h.near;
+        far = ap (λ (z : Circuit). length z.far.way) (sym same) ∙ x.far ∙ ap length (way-asked b.far_asks v.far) ∙ h.far;
       }
 
   pub all-long : (bs : List Beat) (v : Circuit) → IsLong v → IsLong (doing_all (all_steps bs) v)

@@ -1,7 +1,8 @@
 -- An end that rings, one thing at a time: T200 runs on, or SABME is due again; as long as no frame is lost.
-use Rattle.laws_time.proofs.Vocabulary.{AreOctets, AwaitingEstablishment, AwaitingRelease, Bool, Clock, Config, ControlFrame, Course, Established, Expiry, IsInRange, Lengths, LineTold, Link, LinkEvent, LinkTimer, List, None, Note, Observed, Option, Request, Sabme, Service, Some, State, T200, T203, TeiAssigned, Terms, TimedEndpoint, Timer, TimerRecovery, View, [], aim_of_expiry, aim_of_request}
-use Rattle.laws_time.proofs.Vocabulary.{and-false, answers, ap, arith, as_heard, at, at_requested, at_timer, by_request, command_in, cond, contents_given, due, event-follows, expired, false, flat_map, for_layer_3, fresh_link, happens, inl, inr, is_of, is_on, is_same, is_some, is_timer_of, length, line_at, link_after as after, link_in, link_of, link_runs, moment_at, moment_of, moves}
-use Rattle.laws_time.proofs.Vocabulary.{none-of-both, octet_at, option_map_or, place_in, port_of, refl, said_by, state, state_number, subst, sym, terms, true, true≢false, view_behind, view_of, without_first, ℕ, ◌&&◌, ◌++◌, ◌+◌, ◌==◌, ◌||◌, ◌∙◌, ◌∷◌, ◌≡◌, ◌≤◌, ◌⊎◌}
+use Rattle.laws_time.proofs.Vocabulary.{AreOctets, Bool, Clock, Config, ControlFrame, Expiry, IsInRange, Lengths, LineTold, Link, LinkEvent, LinkTimer, List, None, Observed, Option, Request, Sabme, Service, Some, State, T200, T203, TeiAssigned, Terms, TimedEndpoint, Timer, View, [], aim_of_expiry, aim_of_request}
+use Rattle.laws_time.proofs.Vocabulary.{is_waiting}
+use Rattle.laws_time.proofs.Vocabulary.{and-false, answers, ap, arith, as_heard, at, at_requested, at_timer, by_request, command_in, cond, contents_given, due, expired, false, flat_map, for_layer_3, fresh_link, happens, inl, inr, is_of, is_on, is_same, is_some, length, line_at, link_after as after, link_in, link_of, link_runs, moment_at, moment_of, moves, none-of-both, octet_at}
+use Rattle.laws_time.proofs.Vocabulary.{option_map_or, place_in, port_of, refl, said_by, state, state_number, subst, sym, terms, true, view_behind, view_of, without_first, ℕ, ◌&&◌, ◌++◌, ◌+◌, ◌==◌, ◌||◌, ◌∙◌, ◌∷◌, ◌≡◌, ◌≤◌, ◌⊎◌}
 use Rattle.lapd_frame.specs.declared.timers.Timer.TheVariants as timers
 use Rattle.model_link.specs.Events as link
 use Rattle.model_link.specs.Link.{may_repeat}
@@ -14,21 +15,20 @@ use Rattle.model_card.specs.Event as frame_event
 use Rattle.model_card.specs.Run as frame_runs
 use Rattle.model_card.specs.ports.Port as port
 use Rattle.laws_link.specs.States.{by_expiry}
-use Rattle.laws_link.specs.Telling.{told_expired}
 use Rattle.laws_order.specs.circuit.Circuit as circuit
 use Rattle.laws_time.proofs.Falls.{dropped}
 use Rattle.laws_time.proofs.Links.{on-where, stays-on, view-then}
 use Rattle.laws_time.proofs.OctetsMean.{meant_at}
 use Rattle.laws_time.proofs.Sending.{t200-is}
-use Rattle.laws_time.proofs.OfCircuit.Acts.{own-same}
 use Rattle.laws_time.proofs.OfCircuit.AnsweredEnds.{lost, lost-more, lost-expired, expired-told, its-same, DueAt, due-same, due-moved, frame-put, text-low}
 use Rattle.laws_time.proofs.OfCircuit.AnsweredRows.{Puts, establishes, leads, sabme-in}
 use Rattle.laws_time.proofs.OfCircuit.Ends.{first-of, rest-of, stands-without}
-use Rattle.laws_time.proofs.OfCircuit.Moments.{is_own_t200, is_waiting, awaits-in, counts-on, not-anew, runs-on}
+use Rattle.laws_time.proofs.OfCircuit.Moments.{awaits-in, counts-on, not-anew, runs-on}
 use Rattle.laws_time.proofs.OfCircuit.Open.{half, IsOrdinary}
 use Rattle.laws_time.proofs.OfCircuit.Orders.{RunsOurs}
 use Rattle.laws_time.proofs.OfCircuit.Standing.{Ends, Moved, ends-asked, ends-expired, expired-event}
 use Rattle.laws_time.proofs.OfCircuit.Under.{EndBut, EndOk, past, all-past, all-then, here-is, next-card, o-is, q-is, clock-is, state-here}
+use Rattle.laws_time.proofs.Moments.{is_own_t200, own-timer}
 
 -- ---- the link
 
@@ -37,18 +37,7 @@ Rings s = (state_number s ≡ 5) ⊎ (state_number s ≡ 4)
 
 -- A timer expires in state 5 or 4: T200 leads from 5 to 5 or 4, and nothing else moves.
 expiry-closed : (s : State) (timer : LinkTimer) (b again : Bool) → Rings s → Rings (cond b (by_expiry s timer again) s) × (state_number (cond b (by_expiry s timer again) s) ≡ 5 → state_number s ≡ 5)
-expiry-closed s timer false again r = (r, λ e. e)
-expiry-closed TeiAssigned timer true again r = (inr refl, λ e. cc e)
-expiry-closed AwaitingEstablishment T200 true false r = (inr refl, λ e. refl)
-expiry-closed AwaitingEstablishment T200 true true r = (inl refl, λ e. refl)
-expiry-closed AwaitingEstablishment T203 true true r = (inl refl, λ e. refl)
-expiry-closed AwaitingEstablishment T203 true false r = (inl refl, λ e. refl)
-expiry-closed AwaitingRelease timer true again (inl e) = cc e
-expiry-closed AwaitingRelease timer true again (inr e) = cc e
-expiry-closed Established timer true again (inl e) = cc e
-expiry-closed Established timer true again (inr e) = cc e
-expiry-closed TimerRecovery timer true again (inl e) = cc e
-expiry-closed TimerRecovery timer true again (inr e) = cc e
+expiry-closed s timer b again h1z = grind arith
 
 -- Nothing was told layer 3: so it was at any time before.
 abbrev pub IsUntold : List LineTold → Type 0
@@ -57,21 +46,12 @@ IsUntold ts = flat_map for_layer_3 ts ≡ []
 pub untold-parts : (ts us : List LineTold) → IsUntold (ts ++ us) → IsUntold ts × IsUntold us
 untold-parts ts us none = none-of-both (flat_map for_layer_3 ts) (flat_map for_layer_3 us) (sym (flat_map-append for_layer_3 ts us) ∙ none)
 
--- An end that gives up is told so.
-said-some : (c : Course) (n : Note) (ns : List Note) → c.notes ≡ n ∷ ns → IsUntold (said_by c) → ⊥
-said-some c n ns is none = grind arith
-
-in-5 : (s : State) → state_number s ≡ 5 → s ≡ AwaitingEstablishment
-in-5 s is = grind arith
-
 in-4 : (s : State) → state_number s ≡ 4 → s ≡ TeiAssigned
 in-4 s is = grind arith
 
+-- An end that gives up is told so.
 given-up : (t : Terms) (its : LinkTimer) (l : Link) → state_number l.state ≡ 5 → state_number (after t (expired its) l).state ≡ 4 → IsUntold (said_by (links.course t (expired its) l)) → ⊥
-given-up t its l five four none =
-    let to = (after t (expired its) l).state in
-    said-some (links.course t (expired its) l) _ _
-    ((event-follows t (expired its) l).leaves.tells ∙ ap (λ s. told_expired s t to) (in-5 l.state five) ∙ ap (λ s. told_expired AwaitingEstablishment t s) (in-4 to four)) none
+given-up t its l five four none = grind arith
 
 -- SABME is put again as T200 expires there.
 pub sabme-again : (t : Terms) (l : Link) → state_number (after t (expired T200) l).state ≡ 5 → link_runs T200 l.running ≡ true → Puts t establishes (expired T200) l
@@ -231,9 +211,7 @@ module _ (c : Config) (service : Service) (tei : ℕ) (ranged : IsInRange c) (le
             ∙ leads (terms c service tei) (link.expired its) h.but.ends.its
 
         closed : Rings fell_mv.ends.its.state × (state_number fell_mv.ends.its.state ≡ 5 → state_number h.but.ends.its.state ≡ 5)
-        closed =
-            subst (λ s. Rings s × (state_number s ≡ 5 → state_number h.but.ends.its.state ≡ 5)) (sym its-state)
-            (expiry-closed h.but.ends.its.state its (link_runs its h.but.ends.its.running) (may_repeat (terms c service tei) h.but.ends.its) x.rings)
+        closed = grind (arith, its-state, expiry-closed)
 
         -- what it is told, if it gives up
         fell-told : (circuit.happens (port.expiry timer) a.at).told ≡ a.at.told ++ said_by (links.course (terms c service tei) (link.expired its) h.but.ends.its)
@@ -294,15 +272,7 @@ module _ (c : Config) (service : Service) (tei : ℕ) (ranged : IsInRange c) (le
               inr (due-moved c service tei 0 ranged establishes low most way heard a.at (circuit.happens (port.expiry (timers.T203 service tei)) a.at) h.but.ends (λ e. e ≡ link.expired T203) y
               (λ e is. subst IsOrdinary (sym (y.by e is)) tt) is_due)
 
-      by-timer : (timer : Timer) → e.timer ≡ timer → is_timer_of service tei timer ≡ true → Then (port.expiry timer) (record a { clock = without_first a.clock })
-      by-timer (timers.T200 of by) same ours =
-          let own = own-same service tei of by ours in
-          subst (λ t. Then (port.expiry t) (record a { clock = without_first a.clock })) (λ i. timers.T200 (sym own.0 i) (sym own.1 i)) t200-kept
-      by-timer (timers.T203 of by) same ours =
-          let own = own-same service tei of by ours in
-          subst (λ t. Then (port.expiry t) (record a { clock = without_first a.clock })) (λ i. timers.T203 (sym own.0 i) (sym own.1 i)) (t203-kept (same ∙ (λ i. timers.T203 (own.0 i) (own.1 i))))
-      by-timer timers.T201 same ours = absurd (true≢false (sym ours))
-      by-timer timers.T202 same ours = absurd (true≢false (sym ours))
-
       pub falls-kept : Then (port.expiry e.timer) (record a { clock = without_first a.clock })
-      falls-kept = by-timer e.timer refl (first-of (RunsOurs service tei) a.clock.running a.clock.now e h.but.ours falls_now)
+      falls-kept =
+          own-timer service tei (λ timer. e.timer ≡ timer → Then (port.expiry timer) (record a { clock = without_first a.clock })) (λ same. t200-kept) t203-kept
+          e.timer (first-of (RunsOurs service tei) a.clock.running a.clock.now e h.but.ours falls_now) refl

@@ -1,23 +1,21 @@
 -- An event of a line: if no T200 but that of one link expires there, no other link tells that N200 is used up.
-use Rattle.laws_time.proofs.Vocabulary.{Answer, AreAtLines, Bool, Config, Error, Event, IsInRange, List, Note, Observed, Service, T200, Timer, [], ap, arith, at, by_event, cond, eq-eqb, error_in, expiry, false, filter, flat_map, flat_map-append, in_state, inl, inr, is_news, is_on, is_timer_of, is_used_up, list_any, list_any-append, moment_at, news-is-told-so, next, not, notes_due, notes_of}
-use Rattle.laws_time.proofs.Vocabulary.{or_parts, own-is, refl, request, sym, true, true≢false, view_behind, view_of, ℕ, ◌++◌, ◌<◌, ◌==◌, ◌∙◌, ◌∷◌, ◌≡◌, ◌⊎◌}
+use Rattle.laws_time.proofs.Vocabulary.{Answer, AreAtLines, Bool, Config, Error, Event, IsInRange, List, Note, Observed, Service, T200, Timer, [], ap, arith, at, by_event, cond, eq-eqb, expiry, false, filter, flat_map-append, in_state, inl, inr, is_news, is_on, is_timer_of, is_waiting, list_any-append, moment_at, news-is-told-so, next, not, notes_due}
+use Rattle.laws_time.proofs.Vocabulary.{notes_of, own-is, refl, request, sym, true, true≢false, view_behind, view_of, ℕ, ◌++◌, ◌<◌, ◌==◌, ◌∙◌, ◌∷◌, ◌≡◌, ◌⊎◌}
 use Rattle.lapd_frame.specs.declared.timers.Timer.TheVariants as timers
 use Rattle.model_line.specs.Event as line_event
 use Rattle.model_line.specs.Event.{hears}
 use Rattle.model_card.specs.Card.{fresh}
-use Rattle.laws_time.proofs.ArrivalsErrors.{used-append, used-means, expiry-means, is_own_t200, Used}
+use Rattle.laws_time.proofs.ArrivalsErrors.{used-append, used-means, expiry-means, Used}
 use Rattle.laws_time.proofs.Links.{stays-on, there}
-use Rattle.laws_time.proofs.OfCircuit.Acts.{own-same}
-use Rattle.laws_time.proofs.OfCircuit.Moments.{is_waiting, awaits-in}
+use Rattle.laws_time.proofs.OfCircuit.Moments.{awaits-in}
+use Rattle.laws_time.proofs.Moments.{is_own_t200, own-same}
 
 pub used-split : (ns ms : List Note) → Used (ns ++ ms) ≡ false → (Used ns ≡ false) × (Used ms ≡ false)
-used-split ns ms none =
-    or_parts (Used ns) (Used ms) (sym (ap (list_any is_used_up) (flat_map-append error_in ns ms) ∙ list_any-append is_used_up (flat_map error_in ns) (flat_map error_in ms)) ∙ none)
+used-split ns ms none = grind (arith, flat_map-append, list_any-append)
 
 -- Where no link tells it, it is not told.
 rest-none : (b : Bool) (n : Note) (ms : List Note) → Used (cond b (n ∷ ms) ms) ≡ false → Used ms ≡ false
-rest-none true n ms none = (used-split (n ∷ []) ms none).1
-rest-none false n ms none = none
+rest-none b n ms h1z = grind (arith, used-split)
 
 none-used : (ns : List Note) → ((service : Service) (tei : ℕ) → Used (filter (is_news service tei) ns) ≡ false) → Used ns ≡ false
 none-used [] each = refl
@@ -77,13 +75,7 @@ module _ (c : Config) (number : ℕ) (ranged : IsInRange c) (within : number < c
     used-own is = by (used-means c service tei o q what said (ap Used (sym news-due) ∙ is))
       where
         by : ((timer : Timer) × (what ≡ expiry timer) × (is_waiting o.state ≡ true) × ((o.state == q.state) ≡ false) × ((q.state == 1) ≡ false)) → is_own_t200 service tei what ≡ true
-        by (timer, same, waits, moves, off) = led-so (q-by waits)
-          where
-            led-so : (q ≡ in_state 1) ⊎ (q ≡ by_event c service tei what said o) → is_own_t200 service tei what ≡ true
-            led-so (inl gone) = absurd (true≢false (ap (λ (q : Observed). q.state == 1) (sym gone) ∙ off))
-            led-so (inr led) =
-                ap (is_own_t200 service tei) same
-                ∙ (expiry-means c service tei o timer waits (ap (λ (q : Observed). o.state == q.state) (ap (λ x. by_event c service tei x said o) (sym same) ∙ sym led) ∙ moves)).0
+        by h1z = grind (arith, q-by, expiry-means)
 
   pub all-own : (service : Service) (tei : ℕ) → ((timer : Timer) → what ≡ expiry timer → is_timer_of service tei timer ≡ true) → Used (filter (is_news service tei) (notes_of said)) ≡ false → Used (notes_of said) ≡ false
   all-own service tei ours none = none-used (notes_of said) each

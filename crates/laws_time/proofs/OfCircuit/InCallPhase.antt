@@ -1,16 +1,17 @@
 -- In a call on the circuit the end that calls rings, in state 5, and has heard nothing; or both ends are up.
-use Rattle.laws_time.proofs.Vocabulary.{AwaitingEstablishment, AwaitingRelease, Bool, Called, Clocked, Config, ControlFrame, Established, Face, FrameEndpoint, Held, IsFit, IsInRange, IsInRangeTerms, IsUp, Line, LineTold, Link, LinkEndpoint, List, Parts, Service, Some, State, StationStands, StepAt, TeiAssigned, TimedEndpoint, TimerRecovery, WasTold, Wire, [], ap, at_far, at_near, calling, cond}
-use Rattle.laws_time.proofs.Vocabulary.{confirmed, data_told, doing, end, error_f, expires, false, indicated, inl, inr, is_multiple_frame, its_sabme, length, line_at, link_in, loses, map, patient-goes, receives, refl, regranted, renewed, requests, ringing, sabme, seeing, seen, sends, setting, state_at, state_number, subst, sym, takes_sabme, terms, true, true≢false, uncalled, with_sabme, ℕ, ◌++◌}
-use Rattle.laws_time.proofs.Vocabulary.{◌==◌, ◌∙◌, ◌∷◌, ◌≡◌, ◌⊎◌}
+use Rattle.laws_time.proofs.Vocabulary.{false, AwaitingEstablishment, AwaitingRelease, Bool, Called, Clocked, Config, ControlFrame, Established, Face, FrameEndpoint, Held, IsFit, IsInRange, IsInRangeTerms, IsUp, Line, LineTold, Link, LinkEndpoint, List, Parts, Service, Some, State, StationStands, StepAt, TeiAssigned, TimedEndpoint, TimerRecovery, WasTold, Wire, [], ap, at_far, at_near, calling}
+use Rattle.laws_time.proofs.Vocabulary.{cond}
+use Rattle.laws_time.proofs.Vocabulary.{confirmed, data_told, doing, end, error_f, expires, indicated, inl, inr, is_multiple_frame, its_sabme, length, line_at, link_in, loses, map, patient-goes, receives, refl, regranted, renewed, requests, ringing, sabme, seeing, seen, sends, setting, state_at, state_number, subst, sym, takes_sabme, terms, true, true≢false, uncalled, with_sabme, ℕ, ◌++◌, ◌==◌}
+use Rattle.laws_time.proofs.Vocabulary.{◌∙◌, ◌∷◌, ◌≡◌, ◌⊎◌}
 use Rattle.laws_wire.specs.Losing.{heard_in}
 use Rattle.laws_wire.proofs.Ringing.{Tries}
 use Rattle.laws_wire.proofs.UaLostRun as run
 use Rattle.laws_time.proofs.OfCircuit.ArrivAs.{station, heard_of}
 use Rattle.laws_time.proofs.OfCircuit.ArrivPath.{of_call, talk-of}
 use Rattle.laws_time.proofs.OfCircuit.ArrivRun.{Reached}
-use Rattle.laws_time.proofs.OfCircuit.InTime.{PairNow}
 use Rattle.laws_time.proofs.OfCircuit.Standing.{Ends}
 use Rattle.laws_time.proofs.OfCircuit.Under.{state-here}
+use Rattle.laws_time.proofs.OfCircuit.LongEnough.{Pair}
 
 up-number : (s : State) → is_multiple_frame s ≡ true → (state_number s ≡ 7) ⊎ (state_number s ≡ 8)
 up-number Established up = inl refl
@@ -94,10 +95,7 @@ module _ (service : Service) (tei : ℕ) (c d : Config) (p q : ℕ) (face : Face
   phase-in x v (inl none) (inr (some, h)) = absurd (true≢false (sym (ap (λ ts. length ts == 0) none) ∙ some))
   phase-in x v (inr (rest, is)) (inr (some, h)) = called-in x.told rest is x.sent v h
 
-module _ (l : Line) (fit : IsFit l) (w : Clocked) (pair : PairNow l fit w) (r : Reached l fit (calling l.service l.tei l.near l.near_line l.far l.far_line) w) where
-  abbrev begun : Wire
-  begun = calling l.service l.tei l.near l.near_line l.far l.far_line
-
+module _ (l : Line) (fit : IsFit l) (w : Clocked) (pair : Pair l fit w) (r : Reached l fit (calling l.service l.tei l.near l.near_line l.far l.far_line) w) where
   abbrev x : Called
   x = seen l.service l.tei r.path.steps (calling l.service l.tei l.near l.near_line l.far l.far_line) uncalled
 

@@ -1,12 +1,12 @@
 -- An end that rings, as its moment comes and an octet is pulled: T200 runs on, or SABME is due again.
-use Rattle.laws_time.proofs.Vocabulary.{All, All-nil, Bool, ClearBusy, Config, Data, Expiry, IsAskedOfLink as IsAsked, IsInRange, IsOfLink, Lengths, Link, List, None, Port, Request, Service, SetBusy, Some, State, TimedEndpoint, ap, arith, asks, at_requested, by_request, comes_to, cond, due, falls, false, happens, inl, inr, is_due, length, moment_of, obeyed, octet_at, place_in, port_of, refl}
-use Rattle.laws_time.proofs.Vocabulary.{state_number, subst, sym, terms, true, ℕ, ◌*◌, ◌+◌, ◌<◌, ◌∙◌, ◌≡◌, ◌≤◌}
+use Rattle.laws_time.proofs.Vocabulary.{All, All-nil, Bool, ClearBusy, Config, Data, IsAskedOfLink as IsAsked, IsInRange, IsOfLink, Lengths, List, None, Port, Request, Service, SetBusy, Some, State, TimedEndpoint, ap, arith, asks, at_requested, by_request, comes_to, cond, due, falls, false, happens, inl, inr, is_due, length, moment_of, obeyed, octet_at, place_in, port_of, refl}
+use Rattle.laws_time.proofs.Vocabulary.{state_number, subst, sym, true, ℕ, ◌*◌, ◌+◌, ◌<◌, ◌∙◌, ◌≡◌, ◌≤◌}
 use Rattle.lapd_frame.specs.declared.timers.Timer.TheVariants as timers
 use Rattle.model_link.specs.Events as link
 use Rattle.model_line.specs.Event as line
 use Rattle.model_card.specs.ports.Port as port
 use Rattle.laws_time.proofs.OctetsMean.{orders-are}
-use Rattle.laws_time.proofs.OfCircuit.Acts.{IsSoon, asks-goes, all-asked, fell-goes, soon-then}
+use Rattle.laws_time.proofs.OfCircuit.Acts.{Goes, all-keep}
 use Rattle.laws_time.proofs.OfCircuit.AnsweredEnds.{lost-more, due-pull}
 use Rattle.laws_time.proofs.OfCircuit.AnsweredRows.{establishes, offer-stays}
 use Rattle.laws_time.proofs.OfCircuit.Beats.{Counts, at-moment}
@@ -15,7 +15,6 @@ use Rattle.laws_time.proofs.OfCircuit.InCallDue.{Rings, untold-parts, Kept, kept
 use Rattle.laws_time.proofs.OfCircuit.Open.{half}
 use Rattle.laws_time.proofs.OfCircuit.Standing.{Ends, Pulled}
 use Rattle.laws_time.proofs.OfCircuit.Under.{EndOk}
-use Rattle.laws_time.proofs.OfCircuit.Keeping.{comes-keep}
 
 module _ (c : Config) (service : Service) (tei : ℕ) (ranged : IsInRange c) (lengths : Lengths) (rate : ℕ) (low most way heard : ℕ) (m base : ℕ) where
   abbrev EndAt : ℕ → ℕ → TimedEndpoint → Type 0
@@ -23,9 +22,6 @@ module _ (c : Config) (service : Service) (tei : ℕ) (ranged : IsInRange c) (le
 
   abbrev pub KeptAt : (a : TimedEndpoint) → Ends c service tei 0 ranged a.at → Type 0
   KeptAt a h = Kept c service tei ranged lengths rate low most way heard m base a h
-
-  abbrev IsSoonAt : TimedEndpoint → Type 0
-  IsSoonAt a = IsSoon c service tei 0 ranged lengths rate a
 
   abbrev IsBoth : Request → Type 0
   IsBoth r = IsOfLink service tei r × IsAsked service tei r
@@ -50,31 +46,13 @@ module _ (c : Config) (service : Service) (tei : ℕ) (ranged : IsInRange c) (le
     abbrev Given : TimedEndpoint → Type 0
     Given a = length (port_of a.at).given ≡ g
 
-    -- As the moment comes, it goes on so.
-    record On (M : ℕ) (u : TimedEndpoint) : Type 0 where
-      S' : ℕ
-      ok : EndAt S' M u
-      soon : IsSoonAt u
-      given : Given u
-      kept : KeptAt u ok.but.ends
+    -- What is kept, however the end is seen.
+    abbrev On : TimedEndpoint → Type 0
+    On u = Given u × ((k : Ends c service tei 0 ranged u.at) → KeptAt u k)
 
-    on-then : (M : ℕ) (u v : TimedEndpoint) (y : On M u) → Rattle.laws_time.proofs.OfCircuit.Acts.Goes c service tei 0 ranged lengths rate y.S' M u v → (k : Ends c service tei 0 ranged v.at) × KeptAt v k → On M v
-    on-then M u v y one then = record {
-      S' = one.S';
-      ok = one.ok;
-      soon = soon-then c service tei 0 ranged lengths rate y.S' M u v one y.soon;
-      given = ap (λ (p : Port). length p.given) one.port ∙ y.given;
-      kept = kept-same c service tei ranged lengths rate low most way heard m base v then.0 one.ok.but.ends then.1;
-    }
-
-    on-asked : (M : ℕ) (r : Request) (u : TimedEndpoint) → IsBoth r → On M u → On M (asks u r)
-    on-asked M r u is y = on-then M u (asks u r) y (asks-goes c service tei 0 ranged lengths rate u y.S' M y.ok y.soon r is.0) (asks-one r y.S' M u y.ok y.kept is)
-
-    on-fell : (M : ℕ) (e : Expiry) (u : TimedEndpoint) → due u.clock ≡ Some e → On M u → On M (falls u e)
-    on-fell M e u is y =
-        let given = y.given in
-        on-then M u (falls u e) y (fell-goes c service tei 0 ranged lengths rate u y.S' M y.ok y.soon e is)
-        (falls-kept c service tei ranged lengths rate low most way heard m base u y.S' M y.ok y.kept e is (omega (arith, given, low_given)) (omega (arith, given, soon_given)))
+    on-then : (S M : ℕ) (u v : TimedEndpoint) → Given u → Goes c service tei 0 ranged lengths rate S M u v → (k : Ends c service tei 0 ranged v.at) × KeptAt v k → On v
+    on-then S M u v given g then =
+        (ap (λ (p : Port). length p.given) g.port ∙ given, λ k. kept-same c service tei ranged lengths rate low most way heard m base v then.0 k then.1)
 
     -- The moment comes.
     module _ (transit moment n S M : ℕ) (rs : List Request) (a : TimedEndpoint) (h : EndAt S M a) (rests : Rests a) (now_low : a.clock.now ≤ moment) (high : moment ≤ a.clock.now + 1)
@@ -85,16 +63,16 @@ module _ (c : Config) (service : Service) (tei : ℕ) (ranged : IsInRange c) (le
           let ok = at-moment service tei transit lengths rate c ranged moment n S M rs a h rests now_low high counts soon of_link in
           let given = counts.given in
           let at_first : KeptAt t ok.but.ends = kept-same c service tei ranged lengths rate low most way heard m base t h.but.ends ok.but.ends (record { low_lost = x.low_lost; rings = x.rings; said = x.said; due = x.due }) in
-          let y = comes-keep (On M) IsBoth (on-asked M) (on-fell M) moment rs all a (record { S' = S; ok = ok; soon = omega (arith, given, soon); given = given ∙ here; kept = at_first }) in
-          kept-same c service tei ranged lengths rate low most way heard m base (comes_to moment rs a) y.ok.but.ends k y.kept
+          (all-keep c service tei 0 ranged lengths rate On IsBoth (λ r is. is.0)
+          (λ r u S M ok g is on. on-then S M u (asks u r) on.0 g (asks-one r S M u ok (on.1 ok.but.ends) is))
+          (λ e u S M ok g is on. let many = on.0 in
+          on-then S M u (falls u e) on.0 g (falls-kept c service tei ranged lengths rate low most way heard m base u S M ok (on.1 ok.but.ends) e is (omega (arith, many, low_given)) (omega (arith, many, soon_given))))
+          S M moment rs all a ok (omega (arith, given, soon)) (given ∙ here, λ k. kept-same c service tei ranged lengths rate low most way heard m base t ok.but.ends k at_first)).1.1 k
 
   -- An octet is pulled.
   module _ (a : TimedEndpoint) (S M : ℕ) (h : EndAt S M a) (x : KeptAt a h.but.ends) (y : Pulled c service tei 0 ranged a.at h.but.ends) (few : heard ≤ length (port_of a.at).given) where
     same-state : y.ends.its.state ≡ h.but.ends.its.state
-    same-state = elim y.its_is [
-      | inl same ↦ ap (λ (l : Link). l.state) same
-      | inr same ↦ ap (λ (l : Link). l.state) same ∙ offer-stays (terms c service tei) h.but.ends.its
-    ]
+    same-state = grind (arith, offer-stays)
 
     on-pull : state_number h.but.ends.its.state ≡ 5 → state_number y.ends.its.state ≡ 5 → runs_at c service tei ranged lengths rate (happens port.pull a) ≡ runs_at c service tei ranged lengths rate a
     on-pull five then = go (is_due (port_of a.at)) refl

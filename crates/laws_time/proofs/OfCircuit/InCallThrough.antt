@@ -1,10 +1,9 @@
 -- An end that rings on a line without noise: within T200 SABME goes again, and then it is answered in time.
-use Rattle.laws_time.proofs.Vocabulary.{All, All-head, All-tail, AllByRecursion, AreClear, Beat, Bool, Clocked, Config, Expiry, IsAskedOfLink, IsClean, IsClearAt, IsFit, IsInRange, IsOfLink, IsTalk, Lengths, Line, Link, List, None, Option, Parts, Port, Service, Some, Step, T200, TimedEndpoint, Timer, [], after, answered_in, ap, arith, beat, card_of, comes_to, cond, false, fresh, gained, gone}
-use Rattle.laws_time.proofs.Vocabulary.{happens, inl, inr, is_of, length, lt-div-mul-add, moment_of, mul-div-le, mul-le, obeyed, octet_at, option_map, port_of, received, refl, same_Some, state, state_at, state_number, subst, sym, true, ℕ, ◌*◌, ◌+◌, ◌-◌, ◌/◌, ◌<◌, ◌∙◌, ◌∷◌, ◌≡◌, ◌≤◌, ◌⊎◌}
+use Rattle.laws_time.proofs.Vocabulary.{All, All-head, All-tail, AllByRecursion, AreClear, Beat, Bool, Clocked, Config, Expiry, IsAskedOfLink, IsClean, IsClearAt, IsFit, IsInRange, IsOfLink, IsTalk, Lengths, Line, Link, List, None, Option, Parts, Port, Service, Some, Step, T200, TimedEndpoint, Timer, [], after, answered_in, ap, arith, beat, card_of, comes_to, cond, fresh, gained, gone}
+use Rattle.laws_time.proofs.Vocabulary.{happens, inl, inr, is_of, is_waiting, length, lt-div-mul-add, moment_of, mul-div-le, mul-le, obeyed, octet_at, option_map, port_of, refl, same_Some, state, state_at, state_number, subst, sym, ℕ, ◌*◌, ◌+◌, ◌-◌, ◌/◌, ◌<◌, ◌∙◌, ◌∷◌, ◌≡◌, ◌≤◌, ◌⊎◌}
 use Rattle.lapd_frame.specs.declared.timers.Timer.TheVariants as timers
 use Rattle.model_bits.specs.Stream as stream
 use Rattle.model_link.specs.Events as link
-use Rattle.model_link.specs.Events.{frame}
 use Rattle.model_line.specs.Event as line
 use Rattle.model_card.specs.Event as frame_event
 use Rattle.model_card.specs.ports.Port as port
@@ -14,17 +13,16 @@ use Rattle.laws_time.proofs.Before.{Goes as TimedGoes, before-goes, begins as ti
 use Rattle.laws_time.proofs.Links.{state-is}
 use Rattle.laws_time.proofs.OctetsMean.{inside, orders-are, steps-inside, prompt-inside, frame_steps}
 use Rattle.laws_time.proofs.Walk.{seen}
-use Rattle.laws_time.proofs.OfCircuit.Answered.{Waits, grows-all, stage-all, soon-over, Waits}
-use Rattle.laws_time.proofs.OfCircuit.AnsweredBeats.{PairAt, near-come, near-pulls}
+use Rattle.laws_time.proofs.OfCircuit.Answered.{Waits, grows-all, stage-all, soon-over}
 use Rattle.laws_time.proofs.OfCircuit.AnsweredEnds.{lost, its-same, DueAt}
 use Rattle.laws_time.proofs.OfCircuit.AnsweredRows.{establishment, establishment-asks}
-use Rattle.laws_time.proofs.OfCircuit.AnsweredRun.{Ready, Stage, asked_by, ready-then, near-lost, near_mv, near-is, near-state, near-after, z}
+use Rattle.laws_time.proofs.OfCircuit.AnsweredRun.{Ready, Stage, asked_by, ready-then, near-lost, near_mv, near-is, near-state, near-after, z, near-come, near-pulls}
 use Rattle.laws_time.proofs.OfCircuit.Beats.{Gone}
 use Rattle.laws_time.proofs.OfCircuit.Ends.{Leads}
 use Rattle.laws_time.proofs.OfCircuit.InCallDue.{Rings, IsUntold, untold-parts, IsDue, runs_at, on-runs}
 use Rattle.laws_time.proofs.OfCircuit.InCallRings.{KeptAt, comes-kept, pull-kept}
-use Rattle.laws_time.proofs.OfCircuit.LongEnough.{by_now, soon, near-low, near-high, near-gone, in-all}
-use Rattle.laws_time.proofs.OfCircuit.Moments.{awaits-in, is_waiting}
+use Rattle.laws_time.proofs.OfCircuit.LongEnough.{soon, near-low, near-high, near-gone, in-all, Pair}
+use Rattle.laws_time.proofs.OfCircuit.Moments.{awaits-in}
 use Rattle.laws_time.proofs.OfCircuit.Standing.{Ends, Moved}
 use Rattle.laws_time.proofs.OfCircuit.Under.{state-here}
 
@@ -35,11 +33,7 @@ AreUntold l (b ∷ bs) w = IsUntold (beat l.rate w b).near.at.told × AreUntold 
 
 -- A timer that runs is not due where none is.
 first-or : (number now : ℕ) (timer : Timer) (e : Expiry) (es : List Expiry) (m : ℕ) → now < e.moment → (moment_of number timer es ≡ Some m → now < m) → (b : Bool) → cond b (Some e.moment) (moment_of number timer es) ≡ Some m → now < m
-first-or number now timer e es m first rest true is = subst (λ n. now < n) (same e.moment m is) first
-  where
-    same : (a b : ℕ) → Some a ≡ Some b → a ≡ b
-    same a b e = cc e
-first-or number now timer e es m first rest false is = rest is
+first-or number now timer e es m h1z h2z b h3z = grind arith
 
 later-than : (number now : ℕ) (timer : Timer) (xs : List Expiry) (m : ℕ) → AllByRecursion (λ x. now < x.moment) xs → moment_of number timer xs ≡ Some m → now < m
 later-than number now timer [] m all is = cc is
@@ -81,30 +75,24 @@ module _ (l : Line) (fit : IsFit l) (clean base other_base m : ℕ) where
   abbrev runs_now : TimedEndpoint → Option ℕ
   runs_now a = runs_at l.near l.service l.tei fit.call.near.0 l.lengths l.rate a
 
-  abbrev ReadyAt : ℕ → Clocked → Type 0
-  ReadyAt start w = Ready l fit 5 establishment start clean base other_base w
+  abbrev ReadyNow : Clocked → Type 0
+  ReadyNow w = Ready l fit clean base other_base w
 
   abbrev StageAt : ℕ → Clocked → Type 0
-  StageAt start w = Stage l fit 5 establishment start clean base other_base w
-
-  ready-at : (start begin : ℕ) (w : Clocked) → ReadyAt start w → ReadyAt begin w
-  ready-at start begin w y = record { pair = y.pair; near_low = y.near_low; far_low = y.far_low; near_comes = y.near_comes; far_comes = y.far_comes }
+  StageAt start w = Stage l fit 5 establishment start w
 
   -- A beat.
-  module _ (w : Clocked) (soon_clean : clean + 1 ≤ w.beats) (y : ReadyAt w.beats w) (b : Beat) (talk : IsTalk l b) (asked : All (λ r. IsOfLink l.service l.tei r × IsAskedOfLink l.service l.tei r) b.near_asks)
+  module _ (w : Clocked) (soon_clean : clean + 1 ≤ w.beats) (y : ReadyNow w) (b : Beat) (talk : IsTalk l b) (asked : All (λ r. IsOfLink l.service l.tei r × IsAskedOfLink l.service l.tei r) b.near_asks)
       (is_clean : IsClean b) (near_clear : IsClearAt l.near.n201 b.near_noise (gone l.rate b w).near (gone l.rate b w).far) (far_clear : IsClearAt l.near.n201 b.far_noise (gone l.rate b w).far (gone l.rate b w).near)
       (five : state_number y.pair.near_ok.but.ends.its.state ≡ 5) (five_then : state_at l (beat l.rate w b).near ≡ Some 5) (near_few : lost (beat l.rate w b).near.at ≤ base) (far_few : lost (beat l.rate w b).far.at ≤ other_base)
       (runs_m : runs_now w.near ≡ Some m) (untold_then : IsUntold (beat l.rate w b).near.at.told) where
-    abbrev start : ℕ
-    start = w.beats
-
     abbrev most : ℕ
-    most = asked_by l fit 5 establishment w.beats clean base other_base
+    most = asked_by l fit 5 establishment w.beats
 
     abbrev KeptNow : (a : TimedEndpoint) → Ends l.near l.service l.tei 0 fit.call.near.0 a.at → Type 0
-    KeptNow a h = KeptAt l.near l.service l.tei fit.call.near.0 l.lengths l.rate start most l.way start m base a h
+    KeptNow a h = KeptAt l.near l.service l.tei fit.call.near.0 l.lengths l.rate w.beats most l.way w.beats m base a h
 
-    abbrev p : PairAt l fit w
+    abbrev p : Pair l fit w
     p = y.pair
 
     first : KeptNow w.near p.near_ok.but.ends
@@ -119,11 +107,11 @@ module _ (l : Line) (fit : IsFit l) (clean base other_base m : ℕ) where
     came : KeptNow come (near-come l fit w p b talk).ok.but.ends
     came =
         let c = fit.call in
-        comes-kept l.near l.service l.tei c.near.0 l.lengths l.rate start most l.way start m base w.beats (omega arith) (omega arith) l.way (w.beats / l.rate) w.beats p.S
-        (by_now l fit.some c.near.0 c.far.0 c.opposite.0 c.opposite.1 fit.t200 (fresh l.near l.lengths) (fresh l.far l.far_lengths) p.S2) b.near_asks w.near p.near_ok p.both.near
-        (near-low l fit.some c.near.0 c.far.0 c.opposite.0 c.opposite.1 fit.t200 (fresh l.near l.lengths) (fresh l.far l.far_lengths) w p b talk)
-        (near-high l fit.some c.near.0 c.far.0 c.opposite.0 c.opposite.1 fit.t200 (fresh l.near l.lengths) (fresh l.far l.far_lengths) w p b talk) p.near_counts
-        (soon l fit.some c.near.0 c.far.0 c.opposite.0 c.opposite.1 fit.t200 (fresh l.near l.lengths) (fresh l.far l.far_lengths) w p b talk) asked talk.0 refl first (near-come l fit w p b talk).ok.but.ends
+        comes-kept l.near l.service l.tei c.near.0 l.lengths l.rate w.beats most l.way w.beats m base w.beats (omega arith) (omega arith) l.way (w.beats / l.rate) w.beats p.S
+        p.M b.near_asks w.near p.near_ok p.both.near
+        (near-low l fit w p)
+        (near-high l fit w p) p.near_counts
+        (soon l fit w) asked talk.0 refl first (near-come l fit w p b talk).ok.but.ends
 
     given : length (port_of come.at).given ≡ w.beats
     given = ap (λ (p : Port). length p.given) (near-come l fit w p b talk).port ∙ p.near_counts.given
@@ -131,20 +119,20 @@ module _ (l : Line) (fit : IsFit l) (clean base other_base m : ℕ) where
     pulled : KeptNow (gone l.rate b w).near (near-pulls l fit w p b talk).ends
     pulled =
         let so_many = given in
-        pull-kept l.near l.service l.tei fit.call.near.0 l.lengths l.rate start most l.way start m base come (near-come l fit w p b talk).S'
-        (by_now l fit.some fit.call.near.0 fit.call.far.0 fit.call.opposite.0 fit.call.opposite.1 fit.t200 (fresh l.near l.lengths) (fresh l.far l.far_lengths) p.S2) (near-come l fit w p b talk).ok came
+        pull-kept l.near l.service l.tei fit.call.near.0 l.lengths l.rate w.beats most l.way w.beats m base come (near-come l fit w p b talk).S'
+        p.M (near-come l fit w p b talk).ok came
         (near-pulls l fit w p b talk) (omega (arith, so_many))
 
     abbrev hears_mv : Moved l.near l.service l.tei 0 fit.call.near.0 (gone l.rate b w).near.at
-        (circuit.happens (port.octet (z l fit 5 establishment start clean base other_base soon_clean w y b talk is_clean near_clear far_clear).near.value) (gone l.rate b w).near.at) (near-pulls l fit w p b talk).ends
+        (circuit.happens (port.octet (z l fit 5 establishment w.beats clean base other_base soon_clean w y b talk is_clean near_clear far_clear).near.value) (gone l.rate b w).near.at) (near-pulls l fit w p b talk).ends
         (λ e. (f : Parts) × (e ≡ link.received (link.frame f)))
-    hears_mv = near_mv l fit 5 establishment start clean base other_base soon_clean w y b talk is_clean near_clear far_clear
+    hears_mv = near_mv l fit 5 establishment w.beats clean base other_base soon_clean w y b talk is_clean near_clear far_clear
 
     abbrev value : ℕ
-    value = (z l fit 5 establishment start clean base other_base soon_clean w y b talk is_clean near_clear far_clear).near.value
+    value = (z l fit 5 establishment w.beats clean base other_base soon_clean w y b talk is_clean near_clear far_clear).near.value
 
     five-now : state_number hears_mv.ends.its.state ≡ 5
-    five-now = near-state l fit 5 establishment start clean base other_base soon_clean w y b talk is_clean near_clear far_clear 5 five_then
+    five-now = near-state l fit 5 establishment w.beats clean base other_base soon_clean w y b talk is_clean near_clear far_clear 5 five_then
 
     five-pulled : state_number (near-pulls l fit w p b talk).ends.its.state ≡ 5
     five-pulled = go pulled.rings
@@ -153,7 +141,7 @@ module _ (l : Line) (fit : IsFit l) (clean base other_base m : ℕ) where
         untold-pulled : IsUntold (gone l.rate b w).near.at.told
         untold-pulled =
             (untold-parts (gone l.rate b w).near.at.told _
-            (subst (λ (a : TimedEndpoint). IsUntold a.at.told) (near-is l fit 5 establishment start clean base other_base soon_clean w y b talk is_clean near_clear far_clear) untold_then)).0
+            (subst (λ (a : TimedEndpoint). IsUntold a.at.told) (near-is l fit 5 establishment w.beats clean base other_base soon_clean w y b talk is_clean near_clear far_clear) untold_then)).0
 
         go : Rings (near-pulls l fit w p b talk).ends.its.state → state_number (near-pulls l fit w p b talk).ends.its.state ≡ 5
         go (inl five) = five
@@ -163,8 +151,8 @@ module _ (l : Line) (fit : IsFit l) (clean base other_base m : ℕ) where
     vn = (gone l.rate b w).near
 
     g : Gone l.service l.tei l.way l.lengths l.rate l.near fit.call.near.0 (w.beats / l.rate) w.beats p.S
-        (by_now l fit.some fit.call.near.0 fit.call.far.0 fit.call.opposite.0 fit.call.opposite.1 fit.t200 (fresh l.near l.lengths) (fresh l.far l.far_lengths) p.S2) (gone l.rate b w).near
-    g = near-gone l fit.some fit.call.near.0 fit.call.far.0 fit.call.opposite.0 fit.call.opposite.1 fit.t200 (fresh l.near l.lengths) (fresh l.far l.far_lengths) w p b talk near_clear far_clear
+        p.M (gone l.rate b w).near
+    g = near-gone l fit w p b talk
 
     -- T200 runs on as an octet is heard.
     on-heard : runs_now (happens (port.octet value) vn) ≡ runs_now vn
@@ -176,21 +164,21 @@ module _ (l : Line) (fit : IsFit l) (clean base other_base m : ℕ) where
             (orders-are (octet_at vn.at.line (port.octet value)) vn.at.card None (ap (option_map line.hears) is))
         go (Some e) is =
             on-runs l.near l.service l.tei fit.call.near.0 l.lengths l.rate vn (port.octet value) g.S'
-            (by_now l fit.some fit.call.near.0 fit.call.far.0 fit.call.opposite.0 fit.call.opposite.1 fit.t200 (fresh l.near l.lengths) (fresh l.far l.far_lengths) p.S2) g.ok.but (line.hears e)
+            p.M g.ok.but (line.hears e)
             (ap (option_map line.hears) is) refl hears_mv.ends
             (ap (λ (x : Link). state_number x.state) (its-same l.near l.service l.tei 0 fit.call.near.0 vn.at g.ok.but.ends (near-pulls l fit w p b talk).ends) ∙ five-pulled) five-now
 
     pub rings-on : (runs_now (beat l.rate w b).near ≡ Some m) ⊎ StageAt w.beats (beat l.rate w b)
     rings-on =
-        let few = (near-lost l fit 5 establishment start clean base other_base soon_clean w y b talk is_clean near_clear far_clear).2 in
+        let few = (near-lost l fit 5 establishment w.beats clean base other_base soon_clean w y b talk is_clean near_clear far_clear).2 in
         go (pulled.due (omega (arith, few, near_few)) five-pulled)
       where
-        go : IsDue l.near l.service l.tei fit.call.near.0 l.lengths l.rate start most l.way start m base vn (near-pulls l fit w p b talk).ends → (runs_now (beat l.rate w b).near ≡ Some m) ⊎ StageAt w.beats (beat l.rate w b)
+        go : IsDue l.near l.service l.tei fit.call.near.0 l.lengths l.rate w.beats most l.way w.beats m base vn (near-pulls l fit w p b talk).ends → (runs_now (beat l.rate w b).near ≡ Some m) ⊎ StageAt w.beats (beat l.rate w b)
         go (inl runs_v) =
-            inl (ap runs_now (near-is l fit 5 establishment start clean base other_base soon_clean w y b talk is_clean near_clear far_clear) ∙ on-heard ∙ runs_v)
+            inl (ap runs_now (near-is l fit 5 establishment w.beats clean base other_base soon_clean w y b talk is_clean near_clear far_clear) ∙ on-heard ∙ runs_v)
         go (inr due) =
-            inr (near-after l fit 5 establishment start clean base other_base soon_clean w y b talk is_clean near_clear far_clear five_then (λ e. absurd (cc e)) near_few far_few (omega arith)
-            (subst (λ kind. DueAt l.near l.service l.tei 0 fit.call.near.0 kind start most l.way start vn.at (near-pulls l fit w p b talk).ends) (sym establishment-asks) due))
+            inr (near-after l fit 5 establishment w.beats clean base other_base soon_clean w y b talk is_clean near_clear far_clear five_then (λ e. absurd (cc e)) near_few far_few (omega arith)
+            (subst (λ kind. DueAt l.near l.service l.tei 0 fit.call.near.0 kind w.beats most l.way w.beats vn.at (near-pulls l fit w p b talk).ends) (sym establishment-asks) due))
 
   -- So many beats, as long as it rings: T200 runs on, or SABME went again in a beat by then.
   pub record Again (w : Clocked) : Type 0 where
@@ -200,7 +188,7 @@ module _ (l : Line) (fit : IsFit l) (clean base other_base m : ℕ) where
     pub stage : StageAt since w
 
   -- The moment of T200 has not come.
-  not-come : (w : Clocked) → PairAt l fit w → runs_now w.near ≡ Some m → w.beats ≤ m * l.rate
+  not-come : (w : Clocked) → Pair l fit w → runs_now w.near ≡ Some m → w.beats ≤ m * l.rate
   not-come w p runs_m =
       by ((w.beats - 1) / l.rate) (lt-div-mul-add {a = w.beats - 1} {b = l.rate} fit.some)
       (subst (λ n. n < m) p.both.near_now (later-than w.near.at.line w.near.clock.now (timers.T200 l.service l.tei) w.near.clock.running m p.both.near.later runs_m))
@@ -211,16 +199,16 @@ module _ (l : Line) (fit : IsFit l) (clean base other_base m : ℕ) where
           let is : (q + 1) * l.rate ≡ q * l.rate + l.rate = grind arith in
           omega (arith, up, is, high)
 
-  abbrev number_at : (w : Clocked) → PairAt l fit w → ℕ
+  abbrev number_at : (w : Clocked) → Pair l fit w → ℕ
   number_at w p = state_number p.near_ok.but.ends.its.state
 
-  five-of : (w : Clocked) (p : PairAt l fit w) → state_at l w.near ≡ Some 5 → number_at w p ≡ 5
+  five-of : (w : Clocked) (p : Pair l fit w) → state_at l w.near ≡ Some 5 → number_at w p ≡ 5
   five-of w p is = same_Some (number_at w p) 5 (sym (state-here l.near l.service l.tei 0 fit.call.near.0 l.lengths l.rate w.near.at p.near_ok.but.ends) ∙ is)
 
   abbrev AskBoth : Beat → Type 0
   AskBoth b = All (λ r. IsOfLink l.service l.tei r × IsAskedOfLink l.service l.tei r) b.near_asks
 
-  pub all-ring : (bs : List Beat) (w : Clocked) → clean + 1 ≤ w.beats → ReadyAt w.beats w → All (IsTalk l) bs → All AskBoth bs → AreClear l bs w → All IsClean bs → Waits l 5 bs w → AreUntold l bs w → state_at l w.near ≡ Some 5
+  pub all-ring : (bs : List Beat) (w : Clocked) → clean + 1 ≤ w.beats → ReadyNow w → All (IsTalk l) bs → All AskBoth bs → AreClear l bs w → All IsClean bs → Waits l 5 bs w → AreUntold l bs w → state_at l w.near ≡ Some 5
       → runs_now w.near ≡ Some m → lost (after l.rate bs w).near.at ≤ base → lost (after l.rate bs w).far.at ≤ other_base → (runs_now (after l.rate bs w).near ≡ Some m) ⊎ Again (after l.rate bs w)
   unfolding AreClear Waits
   all-ring [] w late y talk asked clear is_clean states untold five runs_m near_few far_few = inl runs_m
@@ -230,12 +218,12 @@ module _ (l : Line) (fit : IsFit l) (clean base other_base m : ℕ) where
       let c = All-head IsClean b bs is_clean in
       let cs = All-tail IsClean b bs is_clean in
       let u = beat l.rate w b in
-      let ready : ReadyAt w.beats (beat l.rate w b) = ready-then l fit 5 establishment w.beats clean base other_base late w y b t c clear.0 clear.1 in
+      let ready : ReadyNow (beat l.rate w b) = ready-then l fit 5 establishment w.beats clean base other_base late w y b t c clear.0 clear.1 in
       let rest = grows-all l fit 5 establishment w.beats clean base other_base late bs u ready ts clear.2 cs in
       let n = rest.near_more in let f = rest.far_more in
       let one = rings-on w late y b t (All-head AskBoth b bs asked) c clear.0 clear.1 (five-of w y.pair five) states.0 (omega (arith, n, near_few)) (omega (arith, f, far_few)) runs_m untold.0 in
       elim one [
-        | inl runs_on ↦ all-ring bs u (omega (arith, late)) (ready-at w.beats u.beats u ready) ts (All-tail AskBoth b bs asked) clear.2 cs states.2 untold.1 states.0 runs_on near_few far_few
+        | inl runs_on ↦ all-ring bs u (omega (arith, late)) ready ts (All-tail AskBoth b bs asked) clear.2 cs states.2 untold.1 states.0 runs_on near_few far_few
         | inr stage ↦
             inr (record {
               since = w.beats;
@@ -247,7 +235,7 @@ module _ (l : Line) (fit : IsFit l) (clean base other_base m : ℕ) where
 
 -- So it rings no longer than T200 and an answer's time.
 module _ (l : Line) (fit : IsFit l) (clean base other_base m : ℕ) where
-  pub rings-shortly : (w last : Clocked) (n : ℕ) → PairAt l fit w → 1 ≤ w.beats → m ≤ w.near.clock.now + l.lengths.t200 → last.beats ≡ w.beats + n → Ready l fit 5 establishment w.beats clean base other_base last
+  pub rings-shortly : (w last : Clocked) (n : ℕ) → Pair l fit w → 1 ≤ w.beats → m ≤ w.near.clock.now + l.lengths.t200 → last.beats ≡ w.beats + n → Ready l fit clean base other_base last
       → (runs_at l.near l.service l.tei fit.call.near.0 l.lengths l.rate last.near ≡ Some m) ⊎ Again l fit clean base other_base m last → n < l.lengths.t200 * l.rate + answered_in l.near l.far l.way
   rings-shortly w last n p some_beats low so_many y = by
     where
@@ -265,12 +253,12 @@ module _ (l : Line) (fit : IsFit l) (clean base other_base m : ℕ) where
       by (inl runs_m) =
           let come = not-come l fit clean base other_base m last y.pair runs_m in
           let low_is = m_low in
-          let some = in-all l fit.some fit.call.near.0 fit.call.far.0 fit.call.opposite.0 fit.call.opposite.1 fit.t200 (fresh l.near l.lengths) (fresh l.far l.far_lengths) 0 in
+          let some = in-all l fit 0 in
           omega (arith, come, low_is, so_many, some)
       by (inr again) =
-          let bound = soon-over l fit 5 establishment again.since clean base other_base again.late last (ready-at l fit clean base other_base m w.beats again.since last y) again.stage in
+          let bound = soon-over l fit 5 establishment again.since clean base other_base again.late last y again.stage in
           let soon = again.soon in
           let low_is = m_low in
           let few = establishment.few in
-          let some = in-all l fit.some fit.call.near.0 fit.call.far.0 fit.call.opposite.0 fit.call.opposite.1 fit.t200 (fresh l.near l.lengths) (fresh l.far l.far_lengths) 0 in
+          let some = in-all l fit 0 in
           omega (arith, bound, soon, low_is, so_many, few, some)

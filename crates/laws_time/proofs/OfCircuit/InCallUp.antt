@@ -1,8 +1,8 @@
 -- A call comes through: T200 and an answer's time after noise has ended both ends are up.
-use Rattle.laws_time.proofs.Vocabulary.{ACallOutlastsNoise, All, All-append, All-cons, All-head, All-nil, All-tail, All-weaker, AreAsked, AreClear, Beat, ClearBusy, Clocked, Data, IsAsked, IsAskedOfLink, IsClean, IsFit, IsIdle, IsOfLink, IsShort, IsTalk, IsUndisturbed, IsUp, Line, LineTold, List, Outlasts, Request, SetBusy, Some, WasTold, [], after, all-left, all-right, answered_in, ap}
+use Rattle.laws_time.proofs.Vocabulary.{ACallOutlastsNoise, All, All-append, All-cons, All-head, All-nil, All-tail, All-weaker, AreAsked, AreClear, Beat, ClearBusy, Clocked, Data, IsAsked, IsAskedOfLink, IsClean, IsIdle, IsOfLink, IsShort, IsTalk, IsUndisturbed, IsUp, Line, LineTold, List, Outlasts, Request, SetBusy, Some, WasTold, [], after, all-left, all-right, answered_in, ap}
 use Rattle.laws_time.proofs.Vocabulary.{append-nil, append_assoc, arith, beat, begins, begun, calls, confirmed, errors_at, flat_map-append, fold-append, for_layer_3, front-none, indicated, inl, inr, is_used_up, length, length-append, list_any, list_any-append, or_parts, refl, state_at, subst, sym, ◌*◌, ◌++◌, ◌+◌, ◌<◌, ◌∙◌, ◌∷◌, ◌≡◌, ◌≤◌, ◌⊎◌}
-use Rattle.laws_time.proofs.OfCircuit.Answered.{Waits, behind-begins, first-ready, grows-all, beats-then, Waits}
-use Rattle.laws_time.proofs.OfCircuit.AnsweredBeats.{BothBehind, behind-all}
+use Rattle.laws_time.proofs.OfCircuit.Answered.{Waits, first-ready, grows-all}
+use Rattle.laws_time.proofs.OfCircuit.AgainRan.{beats-then}
 use Rattle.laws_time.proofs.OfCircuit.AnsweredEnds.{lost}
 use Rattle.laws_time.proofs.OfCircuit.AnsweredRows.{establishment}
 use Rattle.laws_time.proofs.OfCircuit.ArrivAs.{heard_of}
@@ -11,8 +11,10 @@ use Rattle.laws_time.proofs.OfCircuit.InCallFair.{BothWalk, walks-all, talk-all,
 use Rattle.laws_time.proofs.OfCircuit.InCallPhase.{in-call}
 use Rattle.laws_time.proofs.OfCircuit.InCallThrough.{t200-there, all-ring, rings-shortly, AreUntold}
 use Rattle.laws_time.proofs.OfCircuit.InCallDue.{IsUntold}
-use Rattle.laws_time.proofs.OfCircuit.InTime.{PairNow, near_card, far_card, pair-begins}
-use Rattle.laws_time.proofs.OfCircuit.LongEnough.{all-pairs, pair-then, clear-parts}
+use Rattle.laws_time.proofs.OfCircuit.InTime.{pair-begins}
+use Rattle.laws_time.proofs.OfCircuit.LongEnough.{all-pairs, pair-then, clear-parts, Pair}
+use Rattle.laws_time.proofs.OfCircuit.Turned.{as_begins}
+use Rattle.laws_time.proofs.OfCircuit.AgainRan.{both-all, both-begin}
 
 -- Both ends are up, and were told so.
 abbrev CameThrough : Line → Clocked → Type 0
@@ -71,10 +73,9 @@ module _ (l : Line) (before noisy clean : List Beat) (b c : Beat) (nothing : All
         let few = length-append noisy (c ∷ done) in let many = length-append noisy (c ∷ clean) in let parts = sym (ap length all) ∙ length-append done rest in
         let near = short.0 in let far = short.1 in (omega (arith, few, many, parts, near), omega (arith, few, many, parts, far))
 
-    pair : PairNow l h.fit (after l.rate some (begins l))
+    pair : Pair l h.fit (after l.rate some (begins l))
     pair =
-        let k = h.fit.call in
-        all-pairs l h.fit.some k.near.0 k.far.0 k.opposite.0 k.opposite.1 h.fit.t200 (near_card l h.fit) (far_card l h.fit) some some-talk (begins l) some-clear (pair-begins l h.fit)
+        all-pairs l h.fit some some-talk (begins l) some-clear (pair-begins l h.fit)
 
     abbrev InCall : Clocked → Type 0
     InCall w = ((state_at l w.near ≡ Some 5) × (heard_of w.near.at.told ≡ [])) ⊎ ((heard_of w.near.at.told ≡ [] → ⊥) × CameThrough l w)
@@ -95,12 +96,15 @@ module _ (l : Line) (before noisy clean : List Beat) (b c : Beat) (nothing : All
   talk-c : All (IsTalk l) (c ∷ clean)
   talk-c = all-right (IsTalk l) first (c ∷ clean) h.talk
 
-  behind : BothBehind l h.fit v
-  behind = behind-all l h.fit first (begins l) (all-left (IsTalk l) first (c ∷ clean) h.talk) parts.0 (behind-begins l h.fit)
+  talk-first : All (IsTalk l) first
+  talk-first = all-left (IsTalk l) first (c ∷ clean) h.talk
+
+  pair-first : Pair l h.fit v
+  pair-first = all-pairs l h.fit first talk-first (begins l) parts.0 (pair-begins l h.fit)
 
   -- If it rings in the end, it rang all the time.
   module _ (five : state_at l (after l.rate clean w).near ≡ Some 5) (unheard : heard_of (after l.rate clean w).near.at.told ≡ []) where
-    untold : (done rest : List Beat) → done ++ rest ≡ clean → AreClear l rest (after l.rate done w) → PairNow l h.fit (after l.rate done w) → All (IsTalk l) rest → heard_of (after l.rate done w).near.at.told ≡ []
+    untold : (done rest : List Beat) → done ++ rest ≡ clean → AreClear l rest (after l.rate done w) → Pair l h.fit (after l.rate done w) → All (IsTalk l) rest → heard_of (after l.rate done w).near.at.told ≡ []
     untold done rest all clear p talk =
         front-none (heard_of (after l.rate done w).near.at.told) (heard_of walk.near.more)
         (sym (flat_map-append for_layer_3 (after l.rate done w).near.at.told walk.near.more) ∙ ap heard_of (sym walk.near.grows) ∙ ap (λ (u : Clocked). heard_of u.near.at.told) last ∙ unheard)
@@ -111,7 +115,7 @@ module _ (l : Line) (before noisy clean : List Beat) (b c : Beat) (nothing : All
         last : after l.rate rest (after l.rate done w) ≡ after l.rate clean w
         last = sym (fold-append (beat l.rate) w done rest) ∙ ap (λ bs. after l.rate bs w) all
 
-    rang : (done rest : List Beat) → done ++ rest ≡ clean → AreClear l rest (after l.rate done w) → PairNow l h.fit (after l.rate done w) → All (IsTalk l) rest → state_at l (after l.rate done w).near ≡ Some 5
+    rang : (done rest : List Beat) → done ++ rest ≡ clean → AreClear l rest (after l.rate done w) → Pair l h.fit (after l.rate done w) → All (IsTalk l) rest → state_at l (after l.rate done w).near ≡ Some 5
     rang done rest all clear p talk = go (call-now done rest all)
       where
         go : ((state_at l (after l.rate done w).near ≡ Some 5) × (heard_of (after l.rate done w).near.at.told ≡ [])) ⊎ ((heard_of (after l.rate done w).near.at.told ≡ [] → ⊥) × CameThrough l (after l.rate done w))
@@ -119,38 +123,36 @@ module _ (l : Line) (before noisy clean : List Beat) (b c : Beat) (nothing : All
         go (inl x) = x.0
         go (inr x) = absurd (x.0 (untold done rest all clear p talk))
 
-    waits : (done rest : List Beat) → done ++ rest ≡ clean → AreClear l rest (after l.rate done w) → PairNow l h.fit (after l.rate done w) → All (IsTalk l) rest → Waits l 5 rest (after l.rate done w)
+    waits : (done rest : List Beat) → done ++ rest ≡ clean → AreClear l rest (after l.rate done w) → Pair l h.fit (after l.rate done w) → All (IsTalk l) rest → Waits l 5 rest (after l.rate done w)
     unfolding Waits AreClear
     waits done [] all clear p talk = tt
     waits done (d ∷ rest) all clear p talk =
-        let k = h.fit.call in
         let at_done = after l.rate done w in
         let t = All-head (IsTalk l) d rest talk in
         let ts = All-tail (IsTalk l) d rest talk in
         let u : Clocked = beat l.rate (after l.rate done w) d in
         let then : after l.rate (done ++ d ∷ []) w ≡ beat l.rate (after l.rate done w) d = fold-append (beat l.rate) w done (d ∷ []) in
         let more : (done ++ d ∷ []) ++ rest ≡ clean = append_assoc done (d ∷ []) rest ∙ all in
-        let q = pair-then l h.fit.some k.near.0 k.far.0 k.opposite.0 k.opposite.1 h.fit.t200 (near_card l h.fit) (far_card l h.fit) at_done p d t clear.0 clear.1 in
+        let q = pair-then l h.fit at_done p d t clear.0 clear.1 in
         let clear_then = subst (AreClear l rest) (sym then) clear.2 in
-        let q_then = subst (PairNow l h.fit) (sym then) q in (
+        let q_then = subst (Pair l h.fit) (sym then) q in (
           subst (λ (u : Clocked). state_at l u.near ≡ Some 5) then (rang (done ++ d ∷ []) rest more clear_then q_then ts),
           (λ e. absurd (cc e)),
           subst (Waits l 5 rest) then (waits (done ++ d ∷ []) rest more clear_then q_then ts),
         )
 
-    untold-all : (done rest : List Beat) → done ++ rest ≡ clean → AreClear l rest (after l.rate done w) → PairNow l h.fit (after l.rate done w) → All (IsTalk l) rest
+    untold-all : (done rest : List Beat) → done ++ rest ≡ clean → AreClear l rest (after l.rate done w) → Pair l h.fit (after l.rate done w) → All (IsTalk l) rest
         → AreUntold l rest (after l.rate done w)
     unfolding AreClear
     untold-all done [] all clear p talk = tt
     untold-all done (d ∷ rest) all clear p talk =
-        let k = h.fit.call in
         let t = All-head (IsTalk l) d rest talk in
         let ts = All-tail (IsTalk l) d rest talk in
         let then : after l.rate (done ++ d ∷ []) w ≡ beat l.rate (after l.rate done w) d = fold-append (beat l.rate) w done (d ∷ []) in
         let more : (done ++ d ∷ []) ++ rest ≡ clean = append_assoc done (d ∷ []) rest ∙ all in
-        let q = pair-then l h.fit.some k.near.0 k.far.0 k.opposite.0 k.opposite.1 h.fit.t200 (near_card l h.fit) (far_card l h.fit) (after l.rate done w) p d t clear.0 clear.1 in
+        let q = pair-then l h.fit (after l.rate done w) p d t clear.0 clear.1 in
         let clear_then = subst (AreClear l rest) (sym then) clear.2 in
-        let q_then = subst (PairNow l h.fit) (sym then) q in (
+        let q_then = subst (Pair l h.fit) (sym then) q in (
           subst (λ (u : Clocked). IsUntold u.near.at.told) then (untold (done ++ d ∷ []) rest more clear_then q_then ts),
           subst (AreUntold l rest) then (untold-all (done ++ d ∷ []) rest more clear_then q_then ts),
         )
@@ -163,11 +165,11 @@ module _ (l : Line) (before noisy clean : List Beat) (b c : Beat) (nothing : All
         let t = All-head (IsTalk l) c clean talk-c in
         let ts = All-tail (IsTalk l) c clean talk-c in
         let is_clean = All-head IsClean c clean h.clean in
-        let p = pair-then l h.fit.some k.near.0 k.far.0 k.opposite.0 k.opposite.1 h.fit.t200 (near_card l h.fit) (far_card l h.fit) v behind.pair c t parts.1.0 parts.1.1 in
+        let p = pair-then l h.fit v pair-first c t parts.1.0 parts.1.1 in
         let in_5 = rang [] clean refl parts.1.2 p ts in
         let falls = t200-there l.near l.service l.tei k.near.0 l.lengths w.near p.near_ok.but.ends p.both.near_leads in_5 in
         let base = lost w.near.at in let other_base = lost w.far.at in
-        let y = first-ready l h.fit 5 establishment v behind c t is_clean (parts.1.0, parts.1.1, tt) in
+        let y = first-ready l h.fit v pair-first (both-all l (as_begins l h.fit) first talk-first (begins l) (both-begin l (as_begins l h.fit))) c t is_clean (parts.1.0, parts.1.1, tt) in
         let cleans = All-tail IsClean c clean h.clean in
         let rest = grows-all l h.fit 5 establishment w.beats v.beats base other_base (omega arith) clean w y ts parts.1.2 cleans in
         let same : begun l first c ≡ w = fold-append (beat l.rate) (begins l) first (c ∷ []) in
@@ -195,9 +197,6 @@ none-begins x xs e = cc e
 
 -- Whatever comes then.
 module _ (l : Line) (before noisy clean later : List Beat) (b c : Beat) (h : Outlasts l before noisy clean later b c) where
-  abbrev fit : IsFit l
-  fit = h.undisturbed.fit
-
   abbrev start : List Beat
   start = before ++ calls l b ∷ noisy
 
@@ -226,12 +225,10 @@ module _ (l : Line) (before noisy clean later : List Beat) (b c : Beat) (h : Out
   same-beats = sym (append_assoc before (calls l b ∷ (noisy ++ c ∷ clean)) later) ∙ ap (λ bs. bs ++ later) (sym (append_assoc before (calls l b ∷ noisy) (c ∷ clean)))
 
   first-world : after l.rate (start ++ c ∷ clean) (begins l) ≡ up_by
-  first-world =
-      fold-append (beat l.rate) (begins l) start (c ∷ clean) ∙ ap (λ (w : Clocked). after l.rate clean w) (sym (fold-append (beat l.rate) (begins l) start (c ∷ [])))
+  first-world = grind (arith, fold-append)
 
   last-world : after l.rate all_beats (begins l) ≡ after l.rate later up_by
-  last-world =
-      ap (λ bs. after l.rate bs (begins l)) same-beats ∙ fold-append (beat l.rate) (begins l) (start ++ c ∷ clean) later ∙ ap (λ (w : Clocked). after l.rate later w) first-world
+  last-world = grind (arith, same-beats, fold-append, first-world)
 
   whole-clear : AreClear l all_beats (begins l)
   whole-clear =
@@ -239,24 +236,23 @@ module _ (l : Line) (before noisy clean later : List Beat) (b c : Beat) (h : Out
       (clear-both l (start ++ c ∷ clean) later (begins l) h.undisturbed.clear (subst (AreClear l later) (sym first-world) h.clear))
 
   later-talk : All (IsTalk l) later
-  later-talk = talk-all l fit later (all-right (AreAsked l) (b ∷ noisy ++ c ∷ clean) later h.asked)
+  later-talk = talk-all l h.undisturbed.fit later (all-right (AreAsked l) (b ∷ noisy ++ c ∷ clean) later h.asked)
 
-  pair-at : (bs : List Beat) → All (IsTalk l) bs → AreClear l bs (begins l) → PairNow l fit (after l.rate bs (begins l))
+  pair-at : (bs : List Beat) → All (IsTalk l) bs → AreClear l bs (begins l) → Pair l h.undisturbed.fit (after l.rate bs (begins l))
   pair-at bs talk clear =
-      let k = fit.call in
-      all-pairs l fit.some k.near.0 k.far.0 k.opposite.0 k.opposite.1 fit.t200 (near_card l fit) (far_card l fit) bs talk (begins l) clear (pair-begins l fit)
+      all-pairs l h.undisturbed.fit bs talk (begins l) clear (pair-begins l h.undisturbed.fit)
 
   stays-up : CameThrough l (after l.rate later up_by)
   stays-up =
       let u = after l.rate all_beats (begins l) in
-      let none = n200-lasts-in-a-call l before (noisy ++ c ∷ clean ++ later) b fit h.idle h.asked whole-clear h.short in
+      let none = n200-lasts-in-a-call l before (noisy ++ c ∷ clean ++ later) b h.undisturbed.fit h.idle h.asked whole-clear h.short in
       let fair = or_parts (list_any is_used_up (errors_at u.near)) (list_any is_used_up (errors_at u.far)) (sym (list_any-append is_used_up (errors_at u.near) (errors_at u.far)) ∙ none) in
-      let first_pair = subst (PairNow l fit) first-world (pair-at (start ++ c ∷ clean) h.undisturbed.talk h.undisturbed.clear) in
+      let first_pair = subst (Pair l h.undisturbed.fit) first-world (pair-at (start ++ c ∷ clean) h.undisturbed.talk h.undisturbed.clear) in
       let whole_talk = subst (All (IsTalk l)) (sym same-beats) (All-append (IsTalk l) (start ++ c ∷ clean) later h.undisturbed.talk later-talk) in
-      let walk = walks-all l fit later up_by first_pair later-talk h.clear in
+      let walk = walks-all l h.undisturbed.fit later up_by first_pair later-talk h.clear in
       subst (CameThrough l) last-world
-      (elim (in-call l fit u (pair-at all_beats whole_talk whole-clear)
-      (reached l fit before b (noisy ++ c ∷ clean ++ later) h.idle (All-head (AreAsked l) b (noisy ++ c ∷ clean ++ later) h.asked) (All-tail (AreAsked l) b (noisy ++ c ∷ clean ++ later) h.asked) whole-clear fair)) [
+      (elim (in-call l h.undisturbed.fit u (pair-at all_beats whole_talk whole-clear)
+      (reached l h.undisturbed.fit before b (noisy ++ c ∷ clean ++ later) h.idle (All-head (AreAsked l) b (noisy ++ c ∷ clean ++ later) h.asked) (All-tail (AreAsked l) b (noisy ++ c ∷ clean ++ later) h.asked) whole-clear fair)) [
         | inl x ↦
             let unheard = front-none (heard_of up_by.near.at.told) (heard_of walk.near.more)
             (sym (flat_map-append for_layer_3 up_by.near.at.told walk.near.more) ∙ ap heard_of (sym walk.near.grows) ∙ ap (λ (w : Clocked). heard_of w.near.at.told) (sym last-world) ∙ x.1) in

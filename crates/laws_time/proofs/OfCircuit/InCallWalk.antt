@@ -12,14 +12,13 @@ use Rattle.model_card.specs.ports.Port as port
 use Rattle.model_timed.specs.Timed.{after as next, event_of}
 use Rattle.laws_time.proofs.ArrivalsErrors.{Used}
 use Rattle.laws_time.proofs.OctetsMean.{meant_at, notes-are}
-use Rattle.laws_time.proofs.OfCircuit.Acts.{IsSoon, asks-goes, fell-goes, soon-then, Goes, goes-both, goes-none}
+use Rattle.laws_time.proofs.OfCircuit.Acts.{all-keep}
 use Rattle.laws_time.proofs.OfCircuit.ArrivFair.{codes, codes-append, IsFair}
 use Rattle.laws_time.proofs.OfCircuit.Beats.{Counts, at-moment}
 use Rattle.laws_time.proofs.OfCircuit.Ends.{Leads, Rests, at_time, time-comes, both-lead, both-prompt, first-of}
 use Rattle.laws_time.proofs.OfCircuit.InCallNotes.{used-split, all-own}
 use Rattle.laws_time.proofs.OfCircuit.Orders.{RunsOurs}
 use Rattle.laws_time.proofs.OfCircuit.Under.{EndBut, EndOk, all-past, all-then, here-is, past}
-use Rattle.laws_time.proofs.OfCircuit.Keeping.{comes-keep}
 
 pub fair-both : (ts us : List LineTold) → IsFair ts → IsFair us → IsFair (ts ++ us)
 fair-both ts us first then =
@@ -147,9 +146,6 @@ module _ (service : Service) (tei : ℕ) where
     -- What is told by an event, of which no T200 of another link is one.
     module _ (a : TimedEndpoint) (ev : port.Event) (S M : ℕ) (h : EndBut c service tei 0 ranged lengths rate S M a)
         (ours : (what : line.Event) → meant_at (octet_at a.at.line ev) a.at.card ≡ Some what → (timer : Timer) → what ≡ line.expiry timer → is_timer_of service tei timer ≡ true) where
-      abbrev number : ℕ
-      number = a.at.line
-
       abbrev noted_now : List Note
       noted_now = notes_in (answered ev a.at)
 
@@ -198,18 +194,9 @@ module _ (service : Service) (tei : ℕ) where
           let v = comes_to moment rs a in
           let ok = at-moment service tei transit lengths rate c ranged moment n S M rs a h rests low high counts soon all in
           let given = counts.given in
-          let soon_now : IsSoon c service tei 0 ranged lengths rate t = omega (arith, given, soon) in
-          let later = λ (u : TimedEndpoint) (g : Goes c service tei 0 ranged lengths rate S M t u). soon-then c service tei 0 ranged lengths rate S M t u g soon_now in
-          let w = comes-keep (λ u. Goes c service tei 0 ranged lengths rate S M t u × Walks t u) (IsOfLink service tei)
-          (λ r u is w. (
-            goes-both c service tei 0 ranged lengths rate S M t u (asks u r) w.0 (asks-goes c service tei 0 ranged lengths rate u w.0.S' M w.0.ok (later u w.0) r is),
-            walks-both t u (asks u r) w.1 (event-walks (port.request r) u w.0.S' M w.0.ok tt),
-          ))
-          (λ x u is w. (
-            goes-both c service tei 0 ranged lengths rate S M t u (falls u x) w.0 (fell-goes c service tei 0 ranged lengths rate u w.0.S' M w.0.ok (later u w.0) x is),
-            walks-both t u (falls u x) w.1 (due-walks u w.0.S' M w.0.ok x is),
-          ))
-          moment rs all a (goes-none c service tei 0 ranged lengths rate S M t ok, walks-none t) in
+          let w = all-keep c service tei 0 ranged lengths rate (Walks t) (IsOfLink service tei) (λ r is. is)
+          (λ r u S M ok g is w. walks-both t u (asks u r) w (event-walks (port.request r) u S M ok tt)) (λ x u S M ok g is w. walks-both t u (falls u x) w (due-walks u S M ok x is))
+          S M moment rs all a ok (omega (arith, given, soon)) (walks-none t) in
           walks-both t v (happens port.pull v) w.1 (event-walks port.pull v w.0.S' M w.0.ok tt)
 
     -- and one is heard.

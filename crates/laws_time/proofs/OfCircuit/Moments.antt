@@ -1,15 +1,13 @@
 -- When T200 falls due in a state that awaits an answer: as long after the command as it runs.
-use Rattle.laws_time.proofs.Vocabulary.{Answer, AreAtLines, Bool, Clock, Config, Event, IsInRange, List, None, Observed, Service, Some, T200, Timer, ap, arith, awaits, brings, by_event, cond, enters, eq-eqb, eqb-true, expiry, false, frame_in, is_anew, is_own, le-ltb, moment_at, moment_of, nat_lt, next, not, obeyed, orders_in, refl, renews, request, runs, sym, true, view_behind, view_of, ℕ, ◌&&◌}
-use Rattle.laws_time.proofs.Vocabulary.{◌+◌, ◌<◌, ◌==◌, ◌||◌, ◌∙◌, ◌≡◌, ◌≤◌}
+use Rattle.laws_time.proofs.Vocabulary.{Answer, AreAtLines, Bool, Clock, Config, Event, IsInRange, List, None, Observed, Service, Some, T200, Timer, ap, arith, awaits, by_event, cond, eq-eqb, eqb-true, false, is_anew, is_waiting, le-ltb, moment_at, moment_of, not, obeyed, orders_in, refl, runs, true, view_behind, view_of, ℕ}
+use Rattle.laws_time.proofs.Vocabulary.{◌&&◌, ◌+◌, ◌<◌, ◌==◌, ◌||◌, ◌∙◌, ◌≡◌, ◌≤◌}
 use Rattle.lapd_frame.specs.declared.timers.Timer.TheVariants as timers
 use Rattle.model_line.specs.Event as line
 use Rattle.model_line.specs.Event.{hears}
 use Rattle.model_card.specs.Card as cards
 use Rattle.laws_time.proofs.Ordered.{moment-left}
 use Rattle.laws_time.proofs.Effects.{sent-like}
-
-abbrev pub is_waiting : ℕ → Bool
-is_waiting n = n == 5 || (n == 6 || n == 8)
+use Rattle.laws_time.proofs.Moments.{is_own_t200}
 
 pub awaits-in : (o : Observed) → is_waiting o.state ≡ true → awaits o ≡ true
 awaits-in o is = grind arith
@@ -17,16 +15,9 @@ awaits-in o is = grind arith
 pub not-7 : (n : ℕ) → is_waiting n ≡ true → (n == 7) ≡ false
 not-7 n is = grind (arith, eqb-true)
 
-abbrev pub is_own_t200 : Service → ℕ → line.Event → Bool
-is_own_t200 service tei (expiry (timers.T200 of by)) = is_own service tei of by
-is_own_t200 service tei other = false
-
 -- T200 alone counts expiries.
 pub counts-on : (c : Config) (service : Service) (tei : ℕ) (what : line.Event) (a : Answer) (o : Observed) → is_own_t200 service tei what ≡ false → (by_event c service tei what a o).expiries ≤ o.expiries
-counts-on c service tei (hears e) a o other = grind arith
-counts-on c service tei (request r) a o other = grind arith
-counts-on c service tei (expiry timer) a o other = grind arith
-counts-on c service tei next a o other = omega (arith, (sent-like c service tei o (frame_in a)).expiries)
+counts-on c service tei what a o h1z = grind (arith, sent-like)
 
 -- An event of the line, of a card that began, after these events.
 module _ (c : Config) (events : List Event) (number : ℕ) (ranged : IsInRange c) (all : AreAtLines (cards.fresh c) events) (within : number < c.lines) (service : Service) (tei : ℕ) (what : line.Event) (k : Clock) where
@@ -41,9 +32,6 @@ module _ (c : Config) (events : List Event) (number : ℕ) (ranged : IsInRange c
 
   abbrev its : Timer
   its = timers.T200 service tei
-
-  abbrev is : Bool
-  is = runs T200 o && not (runs T200 q)
 
   -- the link comes to await an answer, or awaits another one
   pub starts-anew : is_waiting q.state ≡ true → is_anew c service tei T200 o q what ≡ true → moment_of number its ordered.running ≡ Some (k.now + k.lengths.t200)
@@ -66,13 +54,4 @@ module _ (c : Config) (events : List Event) (number : ℕ) (ranged : IsInRange c
       ∙ ap (λ b. cond (b && false) (Some (k.now + k.lengths.t200)) (cond (not b) None (moment_of number its k.running))) (awaits-in q (ap is_waiting same ∙ waits))
 
   pub not-anew : is_waiting o.state ≡ true → q.state ≡ o.state → q.expiries ≤ o.expiries → is_anew c service tei T200 o q what ≡ false
-  not-anew waits same few = both-false (enters o q) (o.state == 7) (brings (renews T200 o.acknowledged o.busy) c service tei what) enters-not (not-7 o.state waits)
-    where
-      both-false : (a b d : Bool) → a ≡ false → b ≡ false → (a || (b && d)) ≡ false
-      both-false a b d x y = grind arith
-
-      none-less : (a : Bool) (m n : ℕ) → a ≡ true → n ≤ m → (not a || nat_lt m n) ≡ false
-      none-less a m n x less = grind (arith, le-ltb)
-
-      enters-not : enters o q ≡ false
-      enters-not = none-less (o.state == q.state) o.expiries q.expiries (eq-eqb o.state q.state (sym same)) few
+  not-anew waits same few = grind (arith, not-7, le-ltb, eq-eqb)

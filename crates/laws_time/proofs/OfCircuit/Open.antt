@@ -1,9 +1,8 @@
 -- What is under way from an end, and until when T200 runs there: after each event.
-use Rattle.laws_time.proofs.Vocabulary.{All, All-head, All-tail, AllByRecursion, Bool, Config, Control, ControlFrame, IsInRange, IsWaitingFrame, Item, Link, LinkEvent, LinkIsSound, List, OctetEndpoint, Ok, Parts, Service, StationStands, [], ap, arith, as_endpoint, as_heard, bits, event-follows, expired, false, few-left, frame, inl, inr, is_final, item_text, left_of, length, length-append}
-use Rattle.laws_time.proofs.Vocabulary.{length-bits, length-check, length-map, link-sound, link_cleared as cleared, list_any, longest_text, map, map-append, offer, or-none, own_side, parts_of, port_of, put, reading, received, refl, requested, room, spelling, subst, sym, take, terms, true, true≢false, ℕ, ◌*◌, ◌++◌, ◌+◌, ◌/◌, ◌∙◌, ◌∷◌, ◌≡◌, ◌≤◌}
+use Rattle.laws_time.proofs.Vocabulary.{All, All-head, All-tail, AllByRecursion, Bool, Config, Control, ControlFrame, IsInRange, IsWaitingFrame, Item, Link, LinkEvent, LinkIsSound, List, OctetEndpoint, Ok, Parts, Service, StationStands, [], ap, arith, as_endpoint, as_heard, bits, event-follows, false, few-left, frame, inl, inr, is_final, item_text, left_of, length, length-append}
+use Rattle.laws_time.proofs.Vocabulary.{length-bits, length-check, length-map, link-sound, link_cleared as cleared, list_any, longest_text, map, map-append, offer, or-none, own_side, parts_of, port_of, put, reading, refl, room, spelling, subst, sym, take, terms, true, true≢false, ℕ, ◌*◌, ◌++◌, ◌+◌, ◌/◌, ◌∙◌, ◌∷◌, ◌≡◌, ◌≤◌}
 use Rattle.lapd_frame.proofs.Naming.{reading-again}
 use Rattle.model_bits.specs.Stuffing.{stuffed}
-use Rattle.model_link.specs.Events as link
 use Rattle.model_link.specs.Link.{frame_of}
 use Rattle.model_link.specs.Machine as links
 use Rattle.laws_time.specs.circuit.LongEnough.{is_of}
@@ -36,18 +35,7 @@ module _ (c : Config) (service : Service) (tei place : ℕ) (ranged : IsInRange 
   -- What is put by an event comes at the end.
   pub waiting-then : (e : LinkEvent) (l : Link) → IsOrdinary e
       → (links.after (terms c service tei) e l).waiting ≡ l.waiting ++ take (room (terms c service tei) l) (put (as_heard (terms c service tei) e) l (links.after (terms c service tei) e l).state)
-  waiting-then (received r) l ordinary = (event-follows (terms c service tei) (received r) l).leaves.waiting ∙ by r
-    where
-      by : (r : link.Received) → Rattle.laws_link.specs.Waiting.waiting_left (terms c service tei) (as_heard (terms c service tei) (received r)) l (links.after (terms c service tei) (received r) l).state
-          ≡ l.waiting ++ take (room (terms c service tei) l) (put (as_heard (terms c service tei) (received r)) l (links.after (terms c service tei) (received r) l).state)
-      by (link.frame f) = refl
-      by link.undefined = refl
-      by link.wrong_size = refl
-      by link.overlong = refl
-  waiting-then (requested r full) l ordinary = (event-follows (terms c service tei) (requested r full) l).leaves.waiting
-  waiting-then (expired timer) l ordinary = (event-follows (terms c service tei) (expired timer) l).leaves.waiting
-  waiting-then offer l ordinary = absurd ordinary
-  waiting-then cleared l ordinary = absurd ordinary
+  waiting-then e l h1z = grind (arith, event-follows)
 
   -- A frame that waits is read as it is.
   module _ (kind : Bool → Control → Bool) where
@@ -132,9 +120,7 @@ module _ (c : Config) (service : Service) (tei place : ℕ) (ranged : IsInRange 
           inr (inr (ap (map (text c service tei)) y.0, λ o put. by-parts o (y.1 o put)))
         where
           by-parts : (o : List ℕ) → (p : Parts) × (o ≡ spelling (own_side c) p) × (reading (own_side c) o ≡ Ok p) × ((asks p.address.command p.control ≡ false) × (is_final p.address.command p.control ≡ false)) → is_of kind c o ≡ false
-          by-parts o z =
-              ap (λ r. list_any (λ (f : Parts). kind f.address.command f.control) (parts_of r)) z.2
-              ∙ or-none (kind z.0.address.command z.0.control) ∙ plain z.0 z.3
+          by-parts o z = grind arith
 
       pub pulled-on : Sends c.n201 (is_of kind c) most (port_of s) (ring h.its) → Sends c.n201 (is_of kind c) most (port_of u) (ring x.ends.its)
       pulled-on ok =

@@ -1,13 +1,10 @@
 -- A clock at which all that is due falls due before time goes on.
-use Rattle.laws_time.proofs.Vocabulary.{All-filter, All-put_in_order, AllByRecursion, AreInRange, Bool, Clock, Expiry, IsInOrder, IsInOrder-filter, IsInOrder-put_in_order, Lengths, List, None, Order, Some, Start, Stop, T201, T202, [], ap, arith, before_order, cond, div-le_of_le-mul, drop, duration, expiry_of, false, filter, first_due, is_before, is_of, le-div, le-ltb, length, mul-div-le, nat_le}
-use Rattle.laws_time.proofs.Vocabulary.{no_earlier, not, obey, obeyed, put_in_order, refl, suc, true, without, ℕ, ◌+◌, ◌/◌, ◌<◌, ◌∙◌, ◌∷◌, ◌≡◌, ◌≤◌}
-use Rattle.lapd_clock.specs.Timer.{Timer, T200, T203}
+use Rattle.laws_time.proofs.Vocabulary.{All-filter, All-put_in_order, AllByRecursion, AreInRange, Bool, Clock, Expiry, IsInOrder, IsInOrder-filter, IsInOrder-put_in_order, Lengths, List, None, Order, Some, Start, Stop, [], ap, arith, before_order, cond, div-le_of_le-mul, drop, duration, expiry_of, false, filter, first_due, is_before, is_of, le-div, le-ltb, length, mul-div-le, nat_le}
+use Rattle.laws_time.proofs.Vocabulary.{no_earlier, not, obey, obeyed, put_in_order, refl, suc, true, without, ℕ, ◌+◌, ◌/◌, ◌<◌, ◌∷◌, ◌≡◌, ◌≤◌}
+use Rattle.lapd_clock.specs.Timer.{Timer}
 
 pub long : (ls : Lengths) → AreInRange ls → (timer : Timer) → 1 ≤ duration ls timer
-long ls r (T200 service tei) = r.t200
-long ls r (T203 service tei) = r.t203
-long ls r T201 = r.t201
-long ls r T202 = r.t202
+long ls h1z timer = grind arith
 
 -- What holds of the timers that run holds of those that run after orders, if it holds of each that is started.
 pub all-obeyed : (P : Expiry → Type 0) (line : ℕ) (c : Clock) (orders : List Order) → ((timer : Timer) → P (record { moment = c.now + duration c.lengths timer; line = line; timer = timer }))
@@ -99,12 +96,7 @@ none-due now (x ∷ xs) h none = go (nat_le x.moment now) refl none
 
 pub one-due : (now : ℕ) (xs : List Expiry) (x : Expiry) → first_due xs now ≡ Some x → many_due now xs ≡ suc (many_due now (drop 1 xs))
 unfolding many_due
-one-due now [] x is = cc is
-one-due now (e ∷ xs) x is = go (nat_le e.moment now) refl is
-  where
-    go : (b : Bool) → nat_le e.moment now ≡ b → cond b (Some e) None ≡ Some x → cond {A = ℕ} (nat_le e.moment now) 1 0 + many_due now xs ≡ suc (many_due now xs)
-    go true is_due is = ap (λ b. cond {A = ℕ} b 1 0 + many_due now xs) is_due ∙ omega arith
-    go false not_due is = cc is
+one-due now xs x h1z = grind arith
 
 -- If none is due, each is later.
 pub all-later : (now : ℕ) (xs : List Expiry) → many_due now xs ≡ 0 → AllByRecursion (λ x. now < x.moment) xs
@@ -118,6 +110,4 @@ all-later now (x ∷ xs) none = (first (nat_le x.moment now) refl none, all-late
 
 -- From one beat to the next the moment stays, or is the next one.
 pub div-stays : (n rate : ℕ) → 1 ≤ rate → (n / rate ≤ (n + 1) / rate) × ((n + 1) / rate ≤ n / rate + 1)
-div-stays n rate some =
-    let low = mul-div-le n rate in let high = mul-div-le (n + 1) rate in
-    (le-div (n / rate) (n + 1) rate (omega (arith, some)) (grind (arith, low)), div-le_of_le-mul rate (grind (arith, high)))
+div-stays n rate some = grind (arith, mul-div-le, le-div, div-le_of_le-mul)

@@ -9,7 +9,7 @@ use Rattle.laws_time.proofs.OfCircuit.AckedLogs.{Log, relogged}
 use Rattle.laws_time.proofs.OfCircuit.AckedOn as on
 use Rattle.laws_time.proofs.OfCircuit.AckedRun.{EndHeld, OldAt, At, near-first, far-first, at-all, none-falls-due}
 use Rattle.laws_time.proofs.OfCircuit.AckedSides.{face, IsUpAt, up-stays}
-use Rattle.laws_time.proofs.OfCircuit.Answered.{beats-then}
+use Rattle.laws_time.proofs.OfCircuit.AgainRan.{beats-then}
 use Rattle.laws_time.proofs.OfCircuit.Ends.{ends-are-timed-cards}
 use Rattle.laws_time.proofs.OfCircuit.InBeatsDue.{AreOnTime, all-on-time, AreKept, all-kept, begins-on-time, begins-kept}
 use Rattle.laws_time.proofs.OfCircuit.InBeatsKept.{Kept}
@@ -51,12 +51,6 @@ module _ (l : Line) (fit : Begins l) (b : Beat) (before : List Beat) (talk : All
   both : Kept l fit (after l.rate (b ∷ before) (begins l)) × BothOwn l fit (after l.rate (b ∷ before) (begins l))
   both = own-then l fit b before talk clean_before
 
-  abbrev k : Kept l fit (after l.rate (b ∷ before) (begins l))
-  k = both.0
-
-  abbrev own : BothOwn l fit (after l.rate (b ∷ before) (begins l))
-  own = both.1
-
   abbrev v : Circuit
   v = both.0.v
 
@@ -77,8 +71,8 @@ module _ (l : Line) (fit : Begins l) (b : Beat) (before : List Beat) (talk : All
   up : UpNow g
   up =
       let z = kept-up l.service l.tei g rest.face in
-      let here = config l.near fit.call.near.0 r.near.at own.near.ends.ran in
-      let there = config l.far fit.call.far.0 r.far.at own.far.ends.ran in
+      let here = config l.near fit.call.near.0 r.near.at both.1.near.ends.ran in
+      let there = config l.far fit.call.far.0 r.far.at both.1.far.ends.ran in
       let w = relogged x y g in (
         z.0,
         z.1,
@@ -88,13 +82,13 @@ module _ (l : Line) (fit : Begins l) (b : Beat) (before : List Beat) (talk : All
       )
 
   up-as : UpNow (as_wire [] [] v)
-  up-as = subst UpNow (sym (same l fit r k rest)) up
+  up-as = subst UpNow (sym (same l fit r both.0 rest)) up
 
   now : Now l fit v
-  now = record { there = []; back = []; follows = follows l fit r k rest; weight = 0; on_wire = inr up-as }
+  now = record { there = []; back = []; follows = follows l fit r both.0 rest; weight = 0; on_wire = inr up-as }
 
   stands : Stands l fit v
-  stands = record { now = now; long = k.long }
+  stands = record { now = now; long = both.0.long }
 
   is-up : IsUpAt l fit v
   is-up =
@@ -107,9 +101,6 @@ module _ (l : Line) (fit : Begins l) (b : Beat) (before : List Beat) (talk : All
 
   timed : IsTimedCard l.near l.lengths r.near × IsTimedCard l.far l.far_lengths r.far
   timed = ends-are-timed-cards l.near l.far l.near_line l.far_line l.tei l.way l.rate l.lengths l.far_lengths (b ∷ before) fit.call.near.1 fit.call.far.1 fit.lengths.0 fit.lengths.1 fit.some
-
-  abbrev number : ℕ
-  number = length before
 
   are : r.beats ≡ suc (length before)
   are = let all = beats-then l.rate (b ∷ before) (begins l) in omega (arith, all)
@@ -124,28 +115,28 @@ module _ (l : Line) (fit : Begins l) (b : Beat) (before : List Beat) (talk : All
   none-some : (m : ℕ) → None ≡ Some m → {X : Type 0} → X
   none-some m is = absurd (cc is)
 
-  near-held : EndHeld l fit false (OldAt l fit r v number are stands false []) r.near
+  near-held : EndHeld l fit false (OldAt l fit r v (length before) are stands false []) r.near
   near-held = record {
-    ran = own.near.ends.ran;
+    ran = both.1.near.ends.ran;
     lengths = soon.near.lengths;
-    here = own.near.here;
-    ours = own.near.ours;
+    here = both.1.near.here;
+    ours = both.1.near.ours;
     claim = λ m at_m. none-some m
-        (sym (rests l.service l.tei r.near (as_frames r.far) rest.face.0 rest.far.sent l.near fit.call.near.0 l.lengths own.near.ends.ran timed.0 own.near.ends.stands.speaks.placed) ∙ at_m);
+        (sym (rests l.service l.tei r.near (as_frames r.far) rest.face.0 rest.far.sent l.near fit.call.near.0 l.lengths both.1.near.ends.ran timed.0 both.1.near.ends.stands.speaks.placed) ∙ at_m);
   }
 
-  far-held : EndHeld l fit true (OldAt l fit r v number are stands true []) r.far
+  far-held : EndHeld l fit true (OldAt l fit r v (length before) are stands true []) r.far
   far-held = record {
-    ran = own.far.ends.ran;
+    ran = both.1.far.ends.ran;
     lengths = soon.far.lengths;
-    here = own.far.here;
-    ours = own.far.ours;
+    here = both.1.far.here;
+    ours = both.1.far.ours;
     claim = λ m at_m. none-some m
-        (sym (rests l.service l.tei r.far (as_frames r.near) rest.face.1 rest.near.sent l.far fit.call.far.0 l.far_lengths own.far.ends.ran timed.1 own.far.ends.stands.speaks.placed) ∙ at_m);
+        (sym (rests l.service l.tei r.far (as_frames r.near) rest.face.1 rest.near.sent l.far fit.call.far.0 l.far_lengths both.1.far.ends.ran timed.1 both.1.far.ends.stands.speaks.placed) ∙ at_m);
   }
 
-  at-rest : At l fit r v number are stands []
-  at-rest = record { all = All-nil (AsksData l); sim = subst (run.Sim l fit.call.near.0 fit.call.far.0 r) (sym (none-done l fit v)) k.sim; near = near-held; far = far-held }
+  at-rest : At l fit r v (length before) are stands []
+  at-rest = record { all = All-nil (AsksData l); sim = subst (run.Sim l fit.call.near.0 fit.call.far.0 r) (sym (none-done l fit v)) both.0.sim; near = near-held; far = far-held }
 
   -- ---- so T203 is the first
 
@@ -157,15 +148,15 @@ module _ (l : Line) (fit : Begins l) (b : Beat) (before : List Beat) (talk : All
       none-due : All IsLate r.near.clock.running → All IsLate r.far.clock.running → NoneFallsDue l.rate bs r
       none-due late late_far =
           let limit = r.beats + length bs in
-          let n = goes l.service l.tei r.near (as_frames r.far) rest.face.0 rest.far.sent l.near fit.call.near.0 l.lengths own.near.ends.ran timed.0 own.near.ends.stands.speaks.placed in
-          let f = goes l.service l.tei r.far (as_frames r.near) rest.face.1 rest.near.sent l.far fit.call.far.0 l.far_lengths own.far.ends.ran timed.1 own.far.ends.stands.speaks.placed in
+          let n = goes l.service l.tei r.near (as_frames r.far) rest.face.0 rest.far.sent l.near fit.call.near.0 l.lengths both.1.near.ends.ran timed.0 both.1.near.ends.stands.speaks.placed in
+          let f = goes l.service l.tei r.far (as_frames r.near) rest.face.1 rest.near.sent l.far fit.call.far.0 l.far_lengths both.1.far.ends.ran timed.1 both.1.far.ends.stands.speaks.placed in
           let enough = enough-since limit l.rate r.near.at.line r.near.clock.now (timers.T203 l.service l.tei) l.lengths r.near.clock.running n.0 n.1 refl soon.near.running
           (recursion_from_All IsLate r.near.clock.running late) in
           let enough_far = enough-since limit l.rate r.far.at.line r.far.clock.now (timers.T203 l.service l.tei) l.far_lengths r.far.clock.running f.0 f.1 refl soon.far.running
           (recursion_from_All IsLate r.far.clock.running late_far) in
           let p = lasts limit l.rate r.near.clock.now l.lengths enough in
           let q = lasts limit l.rate r.far.clock.now l.far_lengths enough_far in
-          none-falls-due l fit r v number are stands long long_far answered p q limit (λ now m late. late) (λ now m late. late) bs [] all clean_all at-rest on-time
+          none-falls-due l fit r v (length before) are stands long long_far answered p q limit (λ now m late. late) (λ now m late. late) bs [] all clean_all at-rest on-time
           (record {
             near = record { running = all-late limit l.rate r.near.clock.running late; lengths = soon.near.lengths; since = omega arith };
             far = record { running = all-late limit l.rate r.far.clock.running late_far; lengths = soon.far.lengths; since = omega arith };
@@ -175,12 +166,12 @@ module _ (l : Line) (fit : Begins l) (b : Beat) (before : List Beat) (talk : All
       first-is : (c : Beat) → AsksData l c → IsClean c → (e : Expiry) → FallsDueFirst l bs r c e → e.timer ≡ timers.T203 l.service l.tei
       first-is c data_c clean_c e first = go first.now
         where
-          at-end : At l fit r v number are stands bs
-          at-end = at-all l fit r v number are stands long long_far answered bs [] all clean_all at-rest first.before
+          at-end : At l fit r v (length before) are stands bs
+          at-end = at-all l fit r v (length before) are stands long long_far answered bs [] all clean_all at-rest first.before
 
           go : (due (asked ((after l.rate bs r).beats / l.rate) c.near_asks (after l.rate bs r).near).clock ≡ Some e) ⊎ (due (asked ((after l.rate bs r).beats / l.rate) c.far_asks (after l.rate bs r).far).clock ≡ Some e) → e.timer ≡ timers.T203 l.service l.tei
-          go (inl near) = near-first l fit r v number are stands bs at-end c data_c clean_c long long_far (answered bs all) e near
-          go (inr far) = far-first l fit r v number are stands bs at-end c data_c clean_c long long_far (answered bs all) e far
+          go (inl near) = near-first l fit r v (length before) are stands bs at-end c data_c clean_c long long_far (answered bs all) e near
+          go (inr far) = far-first l fit r v (length before) are stands bs at-end c data_c clean_c long long_far (answered bs all) e far
 
 pub messages-come-in-time : MessagesComeInTime
 messages-come-in-time l b before bs n on = (none, messages-take-beats l b before bs n h.calm.begins h.talk h.calm.data_alone h.clean_before h.calm.are_clean h.rest none)

@@ -1,6 +1,6 @@
 -- At an end of a link at rest T203 runs, and T200 does not.
 use Rattle.laws_time.proofs.Vocabulary.{All, All-head, All-tail, AllByRecursion, Bool, Config, Established, Expiry, HasItsTimer, IsInRange, IsTimedCard, Lengths, Link, List, None, OctetCard, Option, Ran, Service, Some, T200, T203, TimedEndpoint, TimedOctetCard, Timer, [], and_parts, ap, arith, cond, config, duration, eq-eqb, false, fresh_link as fresh, held-is, is_held, is_of, is_running}
-use Rattle.laws_time.proofs.Vocabulary.{is_same, is_some, line_at, link_in, link_number, link_of, link_runs as runs, meant_all, meant_at_lines, moment_of, mul-le, needed_in, not, octet_timers_run_the_same, option_map_or, place_in, ports_fresh as fresh_card, refined_card, refl, runs_at, subst, sym, timely-now, true, true≢false, ℕ, ◌*◌, ◌+◌, ◌<◌, ◌==◌, ◌||◌, ◌∙◌, ◌∷◌, ◌≡◌, ◌≤◌}
+use Rattle.laws_time.proofs.Vocabulary.{is_same, is_some, line_at, link_in, link_number, link_of, link_runs as runs, meant_all, meant_at_lines, moment_of, mul-le, octet_timers_run_the_same, option_map_or, place_in, ports_fresh as fresh_card, refined_card, refl, runs_at, subst, sym, timely-now, true, ℕ, ◌*◌, ◌+◌, ◌<◌, ◌==◌, ◌∙◌, ◌∷◌, ◌≡◌, ◌≤◌}
 use Rattle.lapd_frame.specs.declared.timers.Timer.TheVariants as timers
 use Rattle.model_line.specs.Line.{Line}
 use Rattle.model_card.specs.Card as cards
@@ -11,12 +11,10 @@ use Rattle.laws_time.proofs.Moments.{same}
 use Rattle.laws_time.proofs.OfCircuit.InBeatsDue.{Rule}
 
 none-some : (o : Option ℕ) → is_some o ≡ false → o ≡ None
-none-some None is = refl
-none-some (Some m) is = absurd (true≢false is)
+none-some o h1z = grind arith
 
 some-some : (o : Option ℕ) → is_some o ≡ true → (m : ℕ) × (o ≡ Some m)
-some-some None is = absurd (true≢false (sym is))
-some-some (Some m) is = (m, refl)
+some-some o h1z = grind arith
 
 module _ (c : Config) (ranged : IsInRange c) (service : Service) (tei : ℕ) (ls : Lengths) (a : TimedEndpoint) (ran : Ran c a.at) (timed : IsTimedCard c ls a) (on : place_in (line_at a.at.line a.at.card.card) tei ≡ Some 0) where
   abbrev line : Line
@@ -24,9 +22,6 @@ module _ (c : Config) (ranged : IsInRange c) (service : Service) (tei : ℕ) (ls
 
   abbrev its : Link
   its = link_of service tei (line_at a.at.line a.at.card.card)
-
-  abbrev running : List Expiry
-  running = a.clock.running
 
   within : a.at.line < a.at.card.card.config.lines
   within = subst (λ (k : Config). a.at.line < k.lines) (sym (config c ranged a.at ran)) ran.within
@@ -50,23 +45,21 @@ module _ (c : Config) (ranged : IsInRange c) (service : Service) (tei : ℕ) (ls
 
   pub runs-t200 : is_some (moment_of a.at.line (timers.T200 service tei) a.clock.running) ≡ runs T200 (link_of service tei (line_at a.at.line a.at.card.card)).running
   runs-t200 =
-      sym (held-is a.at.line (timers.T200 service tei) running) ∙ run-as (timers.T200 service tei) ∙ ap (λ o. runs_at service T200 o line) on ∙ ap (λ (x : Link). runs T200 x.running) link-is
+      sym (held-is a.at.line (timers.T200 service tei) a.clock.running) ∙ run-as (timers.T200 service tei) ∙ ap (λ o. runs_at service T200 o line) on ∙ ap (λ (x : Link). runs T200 x.running) link-is
 
   runs-t203 : is_some (moment_of a.at.line (timers.T203 service tei) a.clock.running) ≡ runs T203 (link_of service tei (line_at a.at.line a.at.card.card)).running
   runs-t203 =
-      sym (held-is a.at.line (timers.T203 service tei) running) ∙ run-as (timers.T203 service tei) ∙ ap (λ o. runs_at service T203 o line) on ∙ ap (λ (x : Link). runs T203 x.running) link-is
+      sym (held-is a.at.line (timers.T203 service tei) a.clock.running) ∙ run-as (timers.T203 service tei) ∙ ap (λ o. runs_at service T203 o line) on ∙ ap (λ (x : Link). runs T203 x.running) link-is
 
   module _ (up : its.state ≡ Established) (free : its.peer_busy ≡ false) (acked : its.s ≡ its.a) where
     needs : its.running ≡ Some T203
-    needs =
-        let same_number = eq-eqb its.s its.a acked in
-        has-timer.running ∙ ap (λ state. needed_in state its) up ∙ (λ i. cond (not (same_number i) || free i) (Some T200) (Some T203))
+    needs = grind (arith, eq-eqb, has-timer)
 
     pub t200-none : moment_of a.at.line (timers.T200 service tei) a.clock.running ≡ None
-    t200-none = none-some (moment_of a.at.line (timers.T200 service tei) running) (runs-t200 ∙ ap (runs T200) needs)
+    t200-none = none-some (moment_of a.at.line (timers.T200 service tei) a.clock.running) (runs-t200 ∙ ap (runs T200) needs)
 
     pub t203-some : (m : ℕ) × (moment_of a.at.line (timers.T203 service tei) a.clock.running ≡ Some m)
-    t203-some = some-some (moment_of a.at.line (timers.T203 service tei) running) (runs-t203 ∙ ap (runs T203) needs)
+    t203-some = some-some (moment_of a.at.line (timers.T203 service tei) a.clock.running) (runs-t203 ∙ ap (runs T203) needs)
 
 -- What holds of all that runs holds of the moment of a timer.
 pub moment-keeps : (P : Timer → ℕ → Type 0) (number : ℕ) (its : Timer) (es : List Expiry) (m : ℕ) → AllByRecursion (λ x. P x.timer x.moment) es → moment_of number its es ≡ Some m → P its m

@@ -5,7 +5,7 @@ use Rattle.laws_time.proofs.Vocabulary.{gone, happens, heard_in, heard_with, hea
 use Rattle.model_bits.specs.Stream as stream
 use Rattle.model_card.specs.ports.Port as port
 use Rattle.laws_order.specs.circuit.Circuit as circuit
-use Rattle.laws_time.proofs.OfCircuit.AckedOurs.{of-link, of-timer, link-ours, expired-ours, pull-ours, octet-ours, IsTheirs}
+use Rattle.laws_time.proofs.OfCircuit.Ours.{of-link, of-timer, link-ours, expired-ours, pull-ours, octet-ours, IsTheirs}
 use Rattle.laws_time.proofs.OfCircuit.Began.{end-begins}
 use Rattle.laws_time.proofs.OfCircuit.Ends.{rest-of, first-of}
 use Rattle.laws_time.proofs.OfCircuit.InBeatsAs.{Twin, frames-plus}
@@ -42,12 +42,12 @@ module _ (service : Service) (tei : ℕ) (c d : Config) (ranged : IsInRange c) (
   own-asked : (r : Request) (a : TimedEndpoint) → IsOfLink service tei r → Own a → Own (asks a r)
   own-asked r a is h =
       let x = of-link service tei r is in
-      own-event (port.request r) a h (ends-asked c service tei 0 ranged a.at h.ends r x.0 x.1 x.2).ends (link-ours service tei c d face a.at [] 0 (bare c service tei 0 ranged h.ends.its) h.ends.stands r is)
+      own-event (port.request r) a h (ends-asked c service tei 0 ranged a.at h.ends r x.0 x.1 x.2).ends (link-ours service tei c a.at [] 0 (bare c service tei 0 ranged h.ends.its) h.ends.stands r is)
 
   own-expires : (timer : Timer) → is_timer_of service tei timer ≡ true → (a : TimedEndpoint) → Own a → Own (happens (port.expiry timer) a)
   own-expires timer is a h =
       let x = of-timer service tei timer is in
-      own-event (port.expiry timer) a h (ends-expired c service tei 0 ranged a.at h.ends timer x.0 x.1).ends (expired-ours service tei c d face a.at [] 0 (bare c service tei 0 ranged h.ends.its) h.ends.stands timer is)
+      own-event (port.expiry timer) a h (ends-expired c service tei 0 ranged a.at h.ends timer x.0 x.1).ends (expired-ours service tei c a.at [] 0 (bare c service tei 0 ranged h.ends.its) h.ends.stands timer is)
 
   own-fell : (x : Expiry) (a : TimedEndpoint) → due a.clock ≡ Some x → Own a → Own (falls a x)
   own-fell x a is h =
@@ -59,13 +59,13 @@ module _ (service : Service) (tei : ℕ) (c d : Config) (ranged : IsInRange c) (
   own-gone moment rs all a h =
       let u = comes_to moment rs a in
       let k = comes-keep Own (IsOfLink service tei) own-asked own-fell moment rs all a (record { ends = h.ends; here = h.here; ours = h.ours }) in
-      own-event port.pull u k (pulls c service tei 0 ranged u.at k.ends).ends (pull-ours service tei c d face u.at [] 0 (bare c service tei 0 ranged k.ends.its) k.ends.stands)
+      own-event port.pull u k (pulls c service tei 0 ranged u.at k.ends).ends (pull-ours service tei c u.at [] 0 (bare c service tei 0 ranged k.ends.its) k.ends.stands)
 
   -- An octet is heard: if it ends a frame, that is one that the other end has put.
   module _ (a : TimedEndpoint) (h : Own a) (value : ℕ) (fs : List (List ℕ)) (rest : List stream.Event) (all : All (IsOwn d service tei 0 ranged_far) fs)
       (are : framed fs ≡ heard_in c.n201 ((port_of a.at).received ++ value ∷ []) ++ rest) where
     abbrev Theirs : stream.Event → Type 0
-    Theirs e = IsTheirs service tei c d face a.at [] 0 (bare c service tei 0 ranged h.ends.its) h.ends.stands e
+    Theirs e = IsTheirs service tei c a.at [] 0 (bare c service tei 0 ranged h.ends.its) h.ends.stands d face e
 
     theirs : (e : stream.Event) → gained a.at.card.card.config.n201 (port_of a.at).received value ≡ Some e → Theirs e
     theirs e is =
@@ -85,7 +85,7 @@ module _ (service : Service) (tei : ℕ) (c d : Config) (ranged : IsInRange c) (
             (heard-frame c service tei 0 ranged a.at h.ends value d (spelling (own_side d) x.0) x.0 refl x.2 face.side (sym face.n201) (is ∙ ap Some x.1)).ends
 
     own-octet : Own (happens (port.octet value) a)
-    own-octet = own-event (port.octet value) a h ends-heard (octet-ours service tei c d face a.at [] 0 (bare c service tei 0 ranged h.ends.its) h.ends.stands value theirs)
+    own-octet = own-event (port.octet value) a h ends-heard (octet-ours service tei c a.at [] 0 (bare c service tei 0 ranged h.ends.its) h.ends.stands d face value theirs)
 
   pub own-hears : (noise : Option ℕ) (way : List ℕ) (a : TimedEndpoint) → Own a → (n201 : ℕ) → c.n201 ≡ n201 → (fs : List (List ℕ)) (rest : List stream.Event) → All (IsOwn d service tei 0 ranged_far) fs
       → framed fs ≡ heard_in n201 (port_of (hears noise way a).at).received ++ rest → Own (hears noise way a)
@@ -163,7 +163,7 @@ module _ (l : Line) (fit : Begins l) where
   own-all [] talk is_clean w k own = (k, own)
   own-all (b ∷ bs) talk is_clean w k own =
       let t = All-head (IsTalk l) b bs talk in
-      let then = (one-kept l fit b t (All-head IsClean b bs is_clean) w k).kept in
+      let then = one-kept l fit b t (All-head IsClean b bs is_clean) w k in
       own-all bs (All-tail (IsTalk l) b bs talk) (All-tail IsClean b bs is_clean) (beat l.rate w b) then (own-beat b t w own then)
 
   -- So it is after any such beats.

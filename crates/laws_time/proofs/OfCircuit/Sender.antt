@@ -24,21 +24,18 @@ module _ (n201 : ℕ) where
     pub octets : All AreOctets (frames_among p.items)
 
   module _ (p : Port) (h : Fine p) where
-    abbrev sent_items : List Item
-    sent_items = map sent p.items
-
     exact : frames_among (map sent p.items) ≡ frames_among p.items
     exact = frames_sent p.items ∙ all_exact (frames_among p.items) h.octets
 
     pub out : GoOut n201 p.given (frames_among p.items)
     out =
         subst (GoOut n201 p.given) exact
-        (go_out n201 sent_items p.given (left_of p) (same_text p.items ∙ h.sound.text.text) (heard_whole n201 p.items h.on.long h.sound.sizes) (cut_sent p.items p.given h.on.cut))
+        (go_out n201 (map sent p.items) p.given (left_of p) (same_text p.items ∙ h.sound.text.text) (heard_whole n201 p.items h.on.long h.sound.sizes) (cut_sent p.items p.given h.on.cut))
 
     pub all-given : (front : List Item) → p.items ≡ front ++ idle ∷ [] → framed (frames_among p.items) ≡ heard_in n201 p.given
     all-given front is =
         subst (λ frames. framed frames ≡ heard_in n201 p.given) exact
-        (all_out n201 sent_items p.given (left_of p) (same_text p.items ∙ h.sound.text.text) (heard_whole n201 p.items h.on.long h.sound.sizes)
+        (all_out n201 (map sent p.items) p.given (left_of p) (same_text p.items ∙ h.sound.text.text) (heard_whole n201 p.items h.on.long h.sound.sizes)
         (map sent front) (ap (map sent) is ∙ map-append sent front (idle ∷ [])) (cut_sent p.items p.given h.on.cut))
 
     -- The frame of which octets are still to be given is the last on the line.
@@ -74,28 +71,25 @@ module _ (n201 : ℕ) where
   Ends p new o = ((front : List Item) × (p.items ≡ front ++ frame o ∷ [])) ⊎ (new ≡ frame o ∷ [])
 
   module _ (p q : Port) (new : List Item) (value : ℕ) (h : Fine p) (k : Fine q) (g : Gave p q new value) (o : List ℕ) (is : gained n201 p.given value ≡ Some (stream_frame o)) where
-    abbrev H : List Event
-    H = heard_in n201 p.given
-
     abbrev on : List (List ℕ)
     on = (out p h).on_its_way
 
     abbrev later : List (List ℕ)
     later = (out q k).on_its_way
 
-    all-now : framed (frames_among q.items) ≡ H ++ (framed (out p h).on_its_way ++ framed (frames_among new))
+    all-now : framed (frames_among q.items) ≡ (heard_in n201 p.given) ++ (framed (out p h).on_its_way ++ framed (frames_among new))
     all-now =
         ap (λ items. framed (frames_among items)) g.items ∙ ap framed (frames_among-append p.items new)
         ∙ map-append (λ octets. stream_frame octets) (frames_among p.items) (frames_among new)
-        ∙ ap (λ xs. xs ++ framed (frames_among new)) (out p h).heard ∙ append_assoc H (framed on) (framed (frames_among new))
+        ∙ ap (λ xs. xs ++ framed (frames_among new)) (out p h).heard ∙ append_assoc (heard_in n201 p.given) (framed on) (framed (frames_among new))
 
-    with-it : heard_in n201 q.given ≡ H ++ stream_frame o ∷ []
-    with-it = ap (heard_in n201) g.given ∙ heard_with n201 p.given value ∙ ap (λ e. H ++ option_to_list e) is
+    with-it : heard_in n201 q.given ≡ (heard_in n201 p.given) ++ stream_frame o ∷ []
+    with-it = ap (heard_in n201) g.given ∙ heard_with n201 p.given value ∙ ap (λ e. (heard_in n201 p.given) ++ option_to_list e) is
 
     rest-is : framed (out p h).on_its_way ++ framed (frames_among new) ≡ stream_frame o ∷ framed (out q k).on_its_way
     rest-is =
-        append_cancel_left H (framed on ++ framed (frames_among new)) (stream_frame o ∷ framed later)
-        (sym all-now ∙ (out q k).heard ∙ ap (λ xs. xs ++ framed later) with-it ∙ append_assoc H (stream_frame o ∷ []) (framed later))
+        append_cancel_left (heard_in n201 p.given) (framed on ++ framed (frames_among new)) (stream_frame o ∷ framed later)
+        (sym all-now ∙ (out q k).heard ∙ ap (λ xs. xs ++ framed later) with-it ∙ append_assoc (heard_in n201 p.given) (stream_frame o ∷ []) (framed later))
 
     put-now : (items : List Item) → length items ≤ 1 → framed (frames_among items) ≡ stream_frame o ∷ framed (out q k).on_its_way → items ≡ frame o ∷ []
     put-now [] few e = absurd (cc e)

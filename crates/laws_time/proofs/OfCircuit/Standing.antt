@@ -1,6 +1,6 @@
 -- An end of the circuit, on whose line one link alone speaks, after each event.
 use Rattle.laws_time.proofs.Vocabulary.{All, All-append, All-cons, All-head, All-nil, All-tail, Answer, AreOctets, Bool, Card, Config, Fits, FrameEndpoint, Granted, IsCarried, IsInRange, IsSoundCard, Item, Link, LinkEndpoint, LinkTimer, List, NextFrame, None, OctetEndpoint, Option, Parts, Port, Ran, Request, Service, Some, Speaks, StationStands, StreamEvent, Timer, [], aim_of_expiry}
-use Rattle.laws_time.proofs.Vocabulary.{aim_of_request, answer, ap, append-nil, arith, as_endpoint, asked-as, asks-stands, at_requested, at_timer, came, cond, contents_given, expires-stands, false, frame_given, frames_among, frames_among-append, frames_by, fresh_line, gained, given_in, gives-frames, gives-octets, gives-stands, gives-taken, goes-on, heard-as, heard_side, if_meant, inl, inr}
+use Rattle.laws_time.proofs.Vocabulary.{aim_of_request, answer, ap, append-nil, arith, as_endpoint, asked-as, asks-stands, at_requested, at_timer, came, cond, contents_given, expires-stands, false, frame_given, frames_among, frames_among-append, frames_by, fresh_line, gained, given_in, gives-frames, gives-octets, gives-stands, goes-on, heard-as, heard_side, if_meant, inl, inr}
 use Rattle.laws_time.proofs.Vocabulary.{is_due, item_of, line_after, line_answer, line_at, map, meant, next_of_card, on-line, option_map, option_map_or, own_side, place_in, port-after, port_of, ports_after as after, pull-between, pull-given, pull-put, pulled-as, reading, refl, said_by, set-get_or, sound-port, spelling, subst, sym, takes-stands, takes_slot, terms, true, with_link, with_sent}
 use Rattle.laws_time.proofs.Vocabulary.{within-ports, ℕ, ◌++◌, ◌<◌, ◌∙◌, ◌∷◌, ◌≡◌, ◌⊎◌}
 use Rattle.model_bits.specs.Stream as stream
@@ -111,9 +111,6 @@ module _ (c : Config) (service : Service) (tei place : ℕ) (ranged : IsInRange 
       abbrev IsThat : link.Event → Type 0
       IsThat e = e ≡ link.requested asked false
 
-      abbrev asked_then : OctetEndpoint
-      asked_then = happens (port.request r) s
-
       same-port : port_of (happens (port.request r) s) ≡ port_of s
       same-port = port-after s (port.request r) (within-ports c ranged s h.ran)
 
@@ -122,7 +119,7 @@ module _ (c : Config) (service : Service) (tei place : ℕ) (ranged : IsInRange 
 
       refused-moved : StationStands c service tei place (as_endpoint [] (happens (port.request r) s)) (bare h.its) → Moved s (happens (port.request r) s) h IsThat
       refused-moved stands = record {
-        ends = same-ends s asked_then h (goes-on c s (port.request r) octets h.ran) h.its stands (ap (λ (p : Port). p.items) same-port);
+        ends = same-ends s (happens (port.request r) s) h (goes-on c s (port.request r) octets h.ran) h.its stands (ap (λ (p : Port). p.items) same-port);
         event = None;
         link_is = refl;
         by = λ e is. cc is;
@@ -133,7 +130,7 @@ module _ (c : Config) (service : Service) (tei place : ℕ) (ranged : IsInRange 
       granted-moved : StationStands c service tei place (as_endpoint [] (happens (port.request r) s)) (bare (links.after (terms c service tei) (link.requested asked false) h.its))
           → Moved s (happens (port.request r) s) h IsThat
       granted-moved stands = record {
-        ends = same-ends s asked_then h (goes-on c s (port.request r) octets h.ran) (links.after (terms c service tei) (link.requested asked false) h.its) stands (ap (λ (p : Port). p.items) same-port);
+        ends = same-ends s (happens (port.request r) s) h (goes-on c s (port.request r) octets h.ran) (links.after (terms c service tei) (link.requested asked false) h.its) stands (ap (λ (p : Port). p.items) same-port);
         event = Some (link.requested asked false);
         link_is = refl;
         by = λ f is. sym (cc is);
@@ -149,7 +146,7 @@ module _ (c : Config) (service : Service) (tei place : ℕ) (ranged : IsInRange 
       asked-by : Stood → Moved s (happens (port.request r) s) h IsThat
       asked-by (inl none) = refused-moved (subst (λ z. StationStands c service tei place z (bare h.its)) (sym (asked-is ∙ ap bared none)) h.stands)
       asked-by (inr g) =
-          granted-moved (finish s.card.card.config h.stands.config asked_then (wire.happens (line.request r) (as_endpoint [] s)) (with_link (link.requested asked false) (bare h.its)) asked-is g.stands)
+          granted-moved (finish s.card.card.config h.stands.config (happens (port.request r) s) (wire.happens (line.request r) (as_endpoint [] s)) (with_link (link.requested asked false) (bare h.its)) asked-is g.stands)
 
       pub ends-asked : Moved s (happens (port.request r) s) h IsThat
       ends-asked = asked-by (asks-stands service tei place (as_endpoint [] s) (bare h.its) own r asked aims)
@@ -157,8 +154,7 @@ module _ (c : Config) (service : Service) (tei place : ℕ) (ranged : IsInRange 
       -- What it is told, if it is granted.
       told-by : (x : Stood) (e : link.Event) → (asked-by x).event ≡ Some e → (happens (port.request r) s).told ≡ s.told ++ said_by (links.course (terms c service tei) (link.requested asked false) h.its)
       unfolding asked-by refused-moved granted-moved
-      told-by (inl none) e is = cc is
-      told-by (inr g) e is = ap (λ (x : FrameEndpoint). x.told) asked-is ∙ g.told
+      told-by x e h1z = grind (arith, asked-is)
 
       pub asked-told : (e : link.Event) → ends-asked.event ≡ Some e → (happens (port.request r) s).told ≡ s.told ++ said_by (links.course (terms c service tei) (link.requested asked false) h.its)
       unfolding ends-asked
@@ -259,9 +255,6 @@ module _ (c : Config) (service : Service) (tei place : ℕ) (ranged : IsInRange 
 
     -- ---- an octet is pulled
 
-    abbrev pulled : OctetEndpoint
-    pulled = happens port.pull s
-
     fits : Fits c.n201 c
     fits = record { ranged = ranged; size = refl }
 
@@ -277,7 +270,7 @@ module _ (c : Config) (service : Service) (tei place : ℕ) (ranged : IsInRange 
     not-due none =
         let between = pull-between c.n201 c fits s h.ran none in let given = pull-given c.n201 c fits s h.ran in
         record {
-          ends = same-ends s pulled h (goes-on c s port.pull tt h.ran) h.its
+          ends = same-ends s (happens port.pull s) h (goes-on c s port.pull tt h.ran) h.its
               (subst (λ z. StationStands c service tei place z (bare h.its)) (sym (ap bared (pulled-as s []) ∙ ap (λ due. bared (if_meant (cond due (Some line.next) None) (as_endpoint [] s))) none)) h.stands) between.1;
           new = [];
           value = given.0;
@@ -287,14 +280,7 @@ module _ (c : Config) (service : Service) (tei place : ℕ) (ranged : IsInRange 
         }
 
     gives-now : frames_by (wire.answered line.next (as_endpoint [] s)) ≡ frames_among (item_of (given_in (next_of_card s.line s.card.card)) ∷ [])
-    gives-now = go _ (gives-taken (as_endpoint [] s))
-      where
-        put : (o : Option NextFrame) → frames_by (line.gave o) ≡ frames_among (item_of o ∷ [])
-        put None = refl
-        put (Some f) = refl
-
-        go : (o : Option NextFrame) → wire.answered line.next (as_endpoint [] s) ≡ line.gave o → frames_by (wire.answered line.next (as_endpoint [] s)) ≡ frames_among (item_of (given_in (next_of_card s.line s.card.card)) ∷ [])
-        go o is = ap frames_by is ∙ put o ∙ ap (λ a. frames_among (item_of (given_in a) ∷ [])) (sym is)
+    gives-now = grind arith
 
     frames-are : frames_among (item_of (given_in (next_of_card s.line s.card.card)) ∷ []) ≡ map (spelling (own_side c)) (frame_given (terms c service tei) (links.given (terms c service tei) h.its))
     frames-are = sym gives-now ∙ gives-frames service tei place (as_endpoint [] s) (bare h.its) own
@@ -321,7 +307,7 @@ module _ (c : Config) (service : Service) (tei place : ℕ) (ranged : IsInRange 
           ends = record {
             ran = goes-on c s port.pull tt h.ran;
             its = links.after (terms c service tei) link.offer h.its;
-            stands = finish s.card.card.config h.stands.config pulled (wire.happens line.next (as_endpoint [] s)) (with_sent (bare h.its))
+            stands = finish s.card.card.config h.stands.config (happens port.pull s) (wire.happens line.next (as_endpoint [] s)) (with_sent (bare h.its))
                 (ap bared (pulled-as s []) ∙ ap (λ due. bared (if_meant (cond due (Some line.next) None) (as_endpoint [] s))) due) gives;
             frames = subst (All IsOwn) (sym more) (All-append IsOwn (frames_among (port_of s).items) (frames_among (i ∷ [])) h.frames
                 (subst (All IsOwn) (sym frames-are) (all-own (frame_given (terms c service tei) (links.given (terms c service tei) h.its)) carried)));

@@ -1,7 +1,7 @@
 -- An end of the clocked circuit after each event: what is under way from it, and until when T200 runs.
-use Rattle.laws_time.proofs.Vocabulary.{All-append, All-cons, All-nil, AllByRecursion, AreAtLines, Bool, Clock, Config, ControlFrame, IsInRange, Lengths, Link, LinkEvent, List, None, Observed, OctetCard, OctetEndpoint, Option, Service, Some, T200, TimedCard, TimedEndpoint, Timer, View, [], after_all-append, answered, ap, append-nil, arith, as_heard, at, card_of, cond, eq-eqb, eqb-true, false}
-use Rattle.laws_time.proofs.Vocabulary.{frames_after_all, happens, is_anew, is_final, is_time, is_waiting, length, line_at, link_in, lt-ltb, meant_all, meant_at_lines, moment_at, moment_of, moves, not, obeyed, octet_at, octet_orders, option_map, option_map_or, orders_in, port_of, ports_fresh as fresh, put, refined_card, refl, room, same_Some, state, state_number, state_of, subst, sym, take}
-use Rattle.laws_time.proofs.Vocabulary.{terms, true, true≢false, view_behind, view_of, ℕ, ◌*◌, ◌++◌, ◌+◌, ◌<◌, ◌==◌, ◌||◌, ◌∙◌, ◌∷◌, ◌≡◌, ◌≤◌}
+use Rattle.laws_time.proofs.Vocabulary.{All-append, All-cons, All-nil, AllByRecursion, AreAtLines, Bool, Clock, Config, ControlFrame, IsInRange, Lengths, Link, LinkEvent, List, None, Observed, OctetCard, OctetEndpoint, Option, Service, Some, T200, TimedCard, TimedEndpoint, Timer, View, [], after_all-append, answered, ap, append-nil, arith, as_heard, at, card_of, eq-eqb, eqb-true, false}
+use Rattle.laws_time.proofs.Vocabulary.{frames_after_all, happens, is_anew, is_final, is_time, is_waiting, length, meant_all, meant_at_lines, moment_at, moment_of, obeyed, octet_at, octet_orders, orders_in, port_of, ports_fresh as fresh, put, refined_card, refl, room, same_Some, state, state_number, subst, sym, take}
+use Rattle.laws_time.proofs.Vocabulary.{terms, true, view_behind, view_of, ℕ, ◌*◌, ◌++◌, ◌+◌, ◌∙◌, ◌∷◌, ◌≡◌, ◌≤◌}
 use Rattle.lapd_frame.specs.declared.timers.Timer.TheVariants as timers
 use Rattle.model_link.specs.Machine as links
 use Rattle.model_line.specs.Event as line
@@ -53,19 +53,9 @@ module _ (c : Config) (service : Service) (tei place : ℕ) (ranged : IsInRange 
 
   -- The state of its link.
   pub state-here : (s : OctetEndpoint) (h : Ends c service tei place ranged s) → state s.line service tei s.card.card ≡ Some (state_number h.its.state)
-  state-here s h =
-      let l = line_at s.line s.card.card in
-      ap (λ b. cond b (state_of service tei l) None) (lt-ltb s.line s.card.card.config.lines (subst (λ (k : Config). s.line < k.lines) (sym h.stands.config) h.stands.within))
-      ∙ ap (λ o. option_map (λ place. state_number (link_in l service place).state) o) h.stands.speaks.placed
-      ∙ ap (λ (x : Link). Some (state_number x.state)) h.stands.speaks.link
+  state-here s h = grind arith
 
   module _ (a : TimedEndpoint) (ev : port.Event) (S M M' : ℕ) (h : EndBut S M a) where
-    abbrev s : OctetEndpoint
-    s = a.at
-
-    abbrev u : OctetEndpoint
-    u = circuit.happens ev a.at
-
     abbrev pub past : List frame_event.Event
     past = meant_all (fresh c) h.ends.ran.events
 
@@ -103,7 +93,7 @@ module _ (c : Config) (service : Service) (tei place : ℕ) (ranged : IsInRange 
       q-is k =
           ap (λ (v : View). v.link.state) (sym (view-then c service tei a.at.line past (at a.at.line what)))
           ∙ state-is c (past ++ at a.at.line what ∷ []) a.at.line ranged all-then h.ends.ran.within service tei (state_number k.its.state)
-          (ap (state a.at.line service tei) (sym next-card) ∙ state-here u k)
+          (ap (state a.at.line service tei) (sym next-card) ∙ state-here (circuit.happens ev a.at) k)
 
       pub clock-is : obeyed a.at.line (octet_orders (answered ev a.at)) a.clock ≡ obeyed a.at.line (orders_in (moment_at c (meant_all (fresh c) h.ends.ran.events) a.at.line what).answer) a.clock
       clock-is =
@@ -125,11 +115,7 @@ module _ (c : Config) (service : Service) (tei place : ℕ) (ranged : IsInRange 
         putting (Some e) = take (room (terms c service tei) h.ends.its) (put (as_heard (terms c service tei) e) h.ends.its (links.after (terms c service tei) e h.ends.its).state)
 
         put-is : (v : Option LinkEvent) → mv.event ≡ v → mv.ends.its.waiting ≡ h.ends.its.waiting ++ putting v
-        put-is None e =
-            ap (λ (x : Link). x.waiting) (mv.link_is ∙ ap (λ v. option_map_or (λ e. links.after (terms c service tei) e h.ends.its) v h.ends.its) e) ∙ sym (append-nil h.ends.its.waiting)
-        put-is (Some x) e =
-            ap (λ (y : Link). y.waiting) (mv.link_is ∙ ap (λ v. option_map_or (λ e. links.after (terms c service tei) e h.ends.its) v h.ends.its) e)
-            ∙ waiting-then c service tei place ranged x h.ends.its (ordinary x e)
+        put-is v h1z = grind (arith, append-nil, waiting-then)
 
         more-is : mv.ends.its.waiting ≡ h.ends.its.waiting ++ putting mv.event
         more-is = put-is mv.event refl
@@ -228,34 +214,7 @@ module _ (c : Config) (service : Service) (tei place : ℕ) (ranged : IsInRange 
             old e m (ap is_waiting (sym (o-is)) ∙ was) (sym stays ∙ ap (λ (k : Clock). moment_of a.at.line t200 k.running) (sym (clock-is)) ∙ at_m)
 
         no-polls : anew ≡ false → AllByRecursion (λ f. asks f.command f.control ≡ false) (putting mv.event)
-        no-polls none = go mv.event refl
-          where
-            x-time : (x : LinkEvent) → mv.event ≡ Some x → (b : Bool) → is_time x h.ends.its ≡ b → b ≡ false
-            x-time x e true is_so = absurd (true≢false (sym (time x e is_so) ∙ none))
-            x-time x e false is_so = refl
-
-            state-now : (x : LinkEvent) → mv.event ≡ Some x → state_number mv.ends.its.state ≡ state_number (links.after (terms c service tei) x h.ends.its).state
-            state-now x e = ap (λ (y : Link). state_number y.state) (mv.link_is ∙ ap (λ v. option_map_or (λ e. links.after (terms c service tei) e h.ends.its) v h.ends.its) e)
-
-            same-number : (m n : ℕ) → m ≡ n → not (m == n) ≡ false
-            same-number m n e = grind (arith, eq-eqb)
-
-            stays : (x : LinkEvent) → mv.event ≡ Some x → moves h.ends.its.state (links.after (terms c service tei) x h.ends.its).state ≡ false
-            stays x e = same-number (state_number h.ends.its.state) (state_number (links.after (terms c service tei) x h.ends.its).state) (sym (o-is) ∙ no-move none ∙ q-is mv.ends ∙ state-now x e)
-
-            x-time-is : (x : LinkEvent) → mv.event ≡ Some x → is_time x h.ends.its ≡ false
-            x-time-is x e = x-time x e (is_time x h.ends.its) refl
-
-            neither : (x : LinkEvent) → mv.event ≡ Some x → (moves h.ends.its.state (links.after (terms c service tei) x h.ends.its).state || is_time (as_heard (terms c service tei) x) h.ends.its) ≡ false
-            neither x e =
-                ap (λ b. b || is_time (as_heard (terms c service tei) x) h.ends.its) (stays x e)
-                ∙ heard-time (terms c service tei) x h.ends.its ∙ x-time-is x e
-
-            go : (v : Option LinkEvent) → mv.event ≡ v → AllByRecursion (λ f. asks f.command f.control ≡ false) (putting v)
-            go None e = tt
-            go (Some x) e =
-                first-of (λ f. asks f.command f.control ≡ false) (room (terms c service tei) h.ends.its) (put (as_heard (terms c service tei) x) h.ends.its (links.after (terms c service tei) x h.ends.its).state)
-                (put-asks-not (as_heard (terms c service tei) x) h.ends.its (links.after (terms c service tei) x h.ends.its).state (neither x e))
+        no-polls none = grind (arith, eq-eqb, o-is, no-move, q-is, heard-time, first-of, put-asks-not)
 
         pub moved-on : Then S M' (happens ev a)
         moved-on = go anew refl

@@ -1,6 +1,6 @@
 -- Worked values: how long T200 runs in a call in which no timer falls due, and what comes of shorter timers, noise and other requests. Each
 -- computes.
-use Rattle.std.specs.Prelude.{◌≡◌, ◌<◌, ℕ, zero, suc, ◌+◌, ◌*◌, List, [], ◌∷◌, ◌++◌, length, replicate, All, Option, Some, refl}
+use Rattle.std.specs.Prelude.{◌≡◌, ◌<◌, ℕ, zero, suc, List, [], ◌∷◌, ◌++◌, length, replicate, All, Option, Some, refl}
 use Rattle.std.proofs.Common.{arith}
 use Rattle.std.proofs.lemmas.List.Elements.{All-nil, All-cons}
 use Rattle.lapd_clock.specs.Timer.{T200, T203}

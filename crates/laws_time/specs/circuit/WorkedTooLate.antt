@@ -1,5 +1,5 @@
 -- Worked values: T200 is long enough, and falls due while an answer is to come, as a premise of the law is not met. Each computes.
-use Rattle.std.specs.Prelude.{◌≡◌, ◌≤◌, ◌<◌, ℕ, ◌+◌, ◌*◌, true, List, [], ◌∷◌, ◌++◌, length, map, replicate, Some, refl}
+use Rattle.std.specs.Prelude.{◌≡◌, ℕ, true, List, [], ◌∷◌, ◌++◌, length, map, replicate, Some, refl}
 use Rattle.std.proofs.Common.{arith}
 use Rattle.model_bits.specs.Bits.{low_bits}
 use Rattle.model_bits.specs.Stream as stream

@@ -15,6 +15,7 @@ use Rattle.laws_trace.specs.AnswersAreGiven.{texts}
 use Rattle.laws_trace.specs.octets.AnswersAreHeard.{IsPulled, AllThatWaitsIsHeard}
 use Rattle.laws_trace.proofs.AnswersAreGiven as given
 use Rattle.laws_trace.proofs.OfOctets.Emptied.{meant_both}
+use Rattle.laws_trace.proofs.Vocabulary.{arith}
 
 module _ (c : Config) (before behind : List Event) (number : ℕ) (ranged : IsInRange c) (all : AreAtLines (fresh c) (before ++ behind)) (within : number < c.lines)
     (service : Service) (tei : ℕ) (h : IsPulled c number service tei before behind) where
@@ -73,6 +74,4 @@ module _ (c : Config) (before behind : List Event) (number : ℕ) (ranged : IsIn
       (given.link-up c number ranged within service tei first rest these h.stays) enough)))
 
 pub waiting-is-heard : OfEachLine AllThatWaitsIsHeard
-waiting-is-heard c events number ranged all within before behind service tei split h =
-    subst (λ es. AreHeardSince c.n201 (octets_given c before number) (octets_given c es number) (texts c service tei (outgoing_of c service tei number (meant_all (fresh c) before)).waiting))
-    (sym split) (since c before behind number ranged (subst (AreAtLines (fresh c)) split all) within service tei h)
+waiting-is-heard c events number ranged all within before behind service tei split h = grind (arith, since)

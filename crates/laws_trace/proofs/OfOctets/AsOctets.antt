@@ -2,10 +2,8 @@
 use Rattle.laws_trace.proofs.Vocabulary.{◌≡◌, ℕ, ◌%◌, ◌<◌, cond, List, [], ◌∷◌, ◌++◌, map, refl, sym, ap, ◌∙◌, arith, All, filter, map-append, All-head, All-tail, Address, Side, Parts, spelling, reading-again, Config, head, as_octets, Control, head_of, IsSpelled, is_unit, own_side, Sender, side_spelling, renamed, exchanged-small}
 use Rattle.model_card.proofs.OfPorts.AsOctets.{as_many, exact}
 use Rattle.laws_trace.proofs.Reading.{carries_unit}
-use Rattle.std.specs.Prelude.{IsTrue}
 use Rattle.lapd_frame.specs.Grammar.{row, takes}
 use Rattle.lapd_frame.specs.Senders.{Spells}
-use Rattle.laws_trace.proofs.Vocabulary.{subst}
 
 -- A head is as it was.
 sent : (side : Side) (a : Address) (c : Control) (info : List ℕ) → a.sapi < 64 → a.tei < 128
@@ -21,15 +19,7 @@ abbrev parts_sent : Parts → Parts
 parts_sent parts = record parts { info = as_octets parts.info }
 
 still : (sender : Sender) (parts : Parts) (octets : List ℕ) → Spells sender parts octets → Spells sender (parts_sent parts) (as_octets octets)
-still sender parts octets h = record {
-  is_frame = record {
-    sapi = h.is_frame.sapi;
-    tei = h.is_frame.tei;
-    kind = h.is_frame.kind;
-    size = subst (λ n. IsTrue (takes (row parts.control).info n)) (sym (as_many parts.info)) h.is_frame.size;
-  };
-  octets_are = ap as_octets h.octets_are ∙ sent_by sender parts.address parts.control parts.info h.is_frame.sapi h.is_frame.tei;
-}
+still sender parts octets h = grind (arith, takes, row, as_many, sent_by)
 
 pub still_spelled : (c : Config) (octets : List ℕ) → IsSpelled c octets → IsSpelled c (as_octets octets)
 still_spelled c octets (parts, spells, served) = (parts_sent parts, still (own_side c) parts octets spells, served)

@@ -3,7 +3,6 @@ use Rattle.laws_trace.proofs.Vocabulary.{arith, ◌≡◌, ℕ, ◌<◌, List, [
 use Rattle.laws_trace.proofs.Vocabulary.{stream_heard_in, stream_frame, CardEvent}
 use Rattle.model_card.proofs.OfPorts.AsOctets.{all_exact}
 use Rattle.model_card.specs.Card as cards
-use Rattle.model_card.specs.ports.GoingOut.{GoOut}
 use Rattle.model_card.specs.Run as runs
 use Rattle.laws_trace.proofs.OctetsBegin.{frames-are-octets}
 use Rattle.laws_trace.proofs.Spelled.{frames-are-read}
@@ -50,9 +49,7 @@ pub given-are-octets : OfEachLine GivenAreOctets
 given-are-octets c events number ranged all within granted = are_octets c events number ranged all within granted
 
 pub go-out-as-they-are : OfEachLine GoOutAsTheyAre
-go-out-as-they-are c events number ranged all within granted =
-    subst (GoOut c.n201 (octets_given c events number)) (all_exact (frames_to_hear c events number) (are_octets c events number ranged all within granted))
-    (given_frames_are_heard.so_far c events number ranged all within)
+go-out-as-they-are c events number ranged all within granted = grind (arith, all_exact, are_octets, given_frames_are_heard)
 
 pub all-frames-go-out : OfEachLine AllFramesGoOut
 all-frames-go-out c events number ranged all within h =

@@ -1,5 +1,5 @@
 -- Hand-written answers for `no_noise_makes_no_frame`.
-use Rattle.laws_time.proofs.OfCircuit.AnsweredClear.{no-noise-is-clear}
+use Rattle.laws_time.proofs.OfCircuit.AgainKept.{no-noise-is-clear}
 use Rattle.laws_time.proofs.OfCircuit.AnsweredMet.{an-enquiry-is-met}
 use Rattle.laws_time.proofs.circuit.no_noise_makes_no_frame.Goals as goal
 

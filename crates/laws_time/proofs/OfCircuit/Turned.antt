@@ -1,5 +1,5 @@
 -- The circuit from the other side: the two ends are exchanged.
-use Rattle.laws_time.proofs.Vocabulary.{All, All-cons, All-head, All-nil, All-tail, AreClear, Beat, Clocked, IsClean, IsClearAt, IsFit, IsTalk, Line, List, [], after, answered_in, ap, arith, beat, gone, length, longest, map, refl, sides-turned, subst, suc, sym, ℕ, ◌∷◌, ◌≡◌}
+use Rattle.laws_time.proofs.Vocabulary.{All, All-cons, All-head, All-nil, All-tail, AreClear, Beat, Begins, Clocked, IsClean, IsClearAt, IsFit, IsTalk, Line, List, [], after, answered_in, ap, arith, beat, gone, length, longest, map, refl, sides-turned, subst, suc, sym, ℕ, ◌∷◌, ◌≡◌}
 
 abbrev pub turned_line : Line → Line
 turned_line l =
@@ -15,14 +15,18 @@ pub after-turned : (rate : ℕ) (bs : List Beat) (w : Clocked) → after rate (m
 after-turned rate [] w = refl
 after-turned rate (b ∷ bs) w = after-turned rate bs (beat rate w b)
 
+-- Such a line begins.
+abbrev pub as_begins : (l : Line) → IsFit l → Begins l
+as_begins l fit = record { call = fit.call; some = fit.some; lengths = fit.lengths }
+
 module _ (l : Line) (fit : IsFit l) where
-  longest-same : longest l.near.n201 ≡ longest l.far.n201
+  pub longest-same : longest l.near.n201 ≡ longest l.far.n201
   longest-same = ap longest fit.call.opposite.1
 
   pub answered-same : answered_in l.far l.near l.way ≡ answered_in l.near l.far l.way
   answered-same = let same = longest-same in omega (arith, same)
 
-  pub fit-turned : IsFit (turned_line l)
+  abbrev pub fit-turned : IsFit (turned_line l)
   fit-turned =
       let same = longest-same in let near = fit.t200.0 in let far = fit.t200.1 in
       record {

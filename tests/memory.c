@@ -18,7 +18,11 @@ __attribute__((destructor)) static void end(void) {
 }
 void *malloc(size n) { return is_refused() ? 0 : __libc_malloc(n); }
 void *calloc(size n, size each) { return is_refused() ? 0 : __libc_calloc(n, each); }
-void *realloc(void *at, size n) { return is_refused() ? 0 : __libc_realloc(at, n); }
+void *realloc(void *at, size n) {
+    void *given = is_refused() ? 0 : __libc_realloc(at, n);
+    freed += at && given;
+    return given;
+}
 void *aligned_alloc(size to, size n) { return is_refused() ? 0 : __libc_memalign(to, n); }
 int posix_memalign(void **at, size to, size n) { return is_refused() || !(*at = __libc_memalign(to, n)) ? 12 : 0; }
 void free(void *at) { freed += at != 0, __libc_free(at); }

@@ -1,7 +1,3 @@
--- Lemmas: a shelf with two owners; and worked values of a shelf.
--- Lemmas: a sink that keeps replies; places of a shelf of lists.
-pub mod SharedShelf
+-- Worked values of a shelf; and lemmas: a sink that keeps replies.
 mod WorkedShelf
 pub mod Keeping
-mod PlaceLemmas
-mod ShelfLemmas

@@ -1,62 +1,31 @@
-//! Starts. The ranges of a configuration are in `tests/scripts/faults.txt`, and its least and greatest in `tests/scripts/card`.
+//! Starts at the ends of their ranges. Those of a card are in `tests/scripts/card.txt`.
 
-ghost use Rattle.std.specs.Prelude.{◌≡◌, ◌≤◌, IfOk};
-ghost use Rattle.lapd_card.specs.Card.{line_count};
-
-use crate::texts::says;
-use lapd_card::{Card, CardFault, Config, Field};
-use lapd_store::{Shelf, SlabShelf};
-use std::alloc::Global;
+use lapd_bits::{Deframer, Framer};
+use lapd_clock::Clock;
+use lapd_store::{RawShelf, SlabShelf, SlotQueue};
+use lapd_tei::Teis;
 use std::test::Fail;
 
-/// A card of the usual sizes.
-pub fn usual_card(alloc: Global) -> Result<Card<SlabShelf>, Fail>
-    ensures { IfOk result (λ card. line_count card ≡ 1) }
-{
-    Ok(Card::start(alloc, Config::USUAL, SlabShelf::start(alloc, 64, 260)?)?)
-}
-
-/// Why a card does not start with a shelf of so many slots of this width, 8 to 260; none if it does.
-fn fault(alloc: Global, config: Config, slots: u32, width: u16) -> Result<Option<CardFault>, Fail>
-    requires least { 8 ≤ width }
-    requires most { width ≤ 260 }
-{
-    let shelf = SlabShelf::start(alloc, slots, width)?;
-    Ok(Card::start(alloc, config, shelf).err())
-}
-
 #[test]
-fn a_shelf_that_is_too_small(rt: HostRuntime) -> Result<(), Fail> {
-    assert!(rt; fault(rt.alloc(), Config::USUAL, 64, 260)?.is_none());
-    for (slots, width) in [(63, 260), (64, 259), (0, 8)] {
-        assert!(rt; 8 <= width && width <= 260);
-        assert!(rt;
-            fault(rt.alloc(), Config::USUAL, slots, width)? == Some(CardFault::ShelfTooSmall)
-        );
-    }
-    let mut shelf = SlabShelf::start(rt.alloc(), 64, 260)?;
-    assert!(rt; shelf.put(&[]).is_some());
-    assert!(rt;
-        Card::start(rt.alloc(), Config::USUAL, shelf).err() == Some(CardFault::ShelfTooSmall)
-    );
+fn at_the_least(rt: HostRuntime) -> Result<(), Fail> {
+    let _ = Framer::start(rt.alloc(), 0)?;
+    let _ = Deframer::start(rt.alloc(), 0)?;
+    let _ = SlabShelf::start(rt.alloc(), 0, 8)?;
+    let _ = RawShelf::start(rt.alloc(), 0, 8)?;
+    let _ = SlotQueue::start(rt.alloc(), 0)?;
+    let _ = Clock::start(rt.alloc(), 1, 1)?;
+    let _ = Teis::start(rt.alloc(), 1)?;
     Ok(())
 }
 
 #[test]
-fn faults_in_words(rt: HostRuntime) {
-    says(
-        &rt,
-        rt.alloc(),
-        &CardFault::BadConfig(Field::K16),
-        "k16 is out of range",
-    );
-    let field = CardFault::BadConfig(Field::UnitQueue);
-    says(&rt, rt.alloc(), &field, "unit_queue is out of range");
-    says(
-        &rt,
-        rt.alloc(),
-        &CardFault::ShelfTooSmall,
-        "the shelf is too small",
-    );
-    says(&rt, rt.alloc(), &CardFault::OutOfMemory, "out of memory");
+fn at_the_most(rt: HostRuntime) -> Result<(), Fail> {
+    let _ = Framer::start(rt.alloc(), 1024)?;
+    let _ = Deframer::start(rt.alloc(), 1024)?;
+    let _ = SlabShelf::start(rt.alloc(), 8192, 260)?;
+    let _ = RawShelf::start(rt.alloc(), 8192, 260)?;
+    let _ = SlotQueue::start(rt.alloc(), 8192)?;
+    let _ = Clock::start(rt.alloc(), 64, 8)?;
+    let _ = Teis::start(rt.alloc(), 8)?;
+    Ok(())
 }

@@ -1,3 +1,0 @@
-//! Runs of clocks, worked out by hand, and starts.
-
-mod runs;

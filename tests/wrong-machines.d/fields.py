@@ -10,6 +10,8 @@ RECORD = r"^(?:abbrev )?(?:pub )?record [^\n]* where\n((?: .*\n|\n)*)"
 STRUCT = r"^ *pub(?:\([^)]*\))? struct \w+(?:<[^>]*>)? \{\n(.*?)^ *\}"
 FIELD = r"^ +(?:pub(?:\([^)]*\))? )?(?:ghost )?(\w+) ?:"
 WRITTEN = r"\brecord \{"
+# The toolchain's own, which rows write, too: a list, its allocator and its memory.
+OF_STD = "ptr len cap alloc items ok small", "memory", "seal"
 
 
 def declared(text, form):
@@ -19,8 +21,8 @@ def declared(text, form):
 
 
 def all_declared():
-    """Returns the fields of each record and each struct of the crates, and of what proofs share."""
-    found = set().union(*[declared(shared_part(it), RECORD) for it in SHARED])
+    """Returns the fields of each record and each struct of the crates, of what proofs share, and of the toolchain's."""
+    found = {frozenset(it.split()) for it in OF_STD}.union(*[declared(shared_part(it), RECORD) for it in SHARED])
     for folder, _, files in os.walk(f"{ROOT}/crates"):
         part = os.path.relpath(folder, f"{ROOT}/crates").split(os.sep)[1:2]
         for file in files if part in (["specs"], ["src"]) else ():

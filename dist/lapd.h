@@ -203,8 +203,8 @@ enum {
     LAPD_BAD_READING = 45,
 
     /* Of a restore. No card and no clock is there then. */
-    LAPD_BAD_IMAGE = 46 /* no image, or one of another kind or version; damaged so that its form shows it; or of no state that a
-                           card or a clock can have */
+    LAPD_BAD_IMAGE = 46 /* no image, or one of another kind or version; damaged so that its form shows it; or of a state
+                           that docs/FORMAT.md excludes */
 };
 
 /* ---- The configuration of a card -------------------------------------------------------------------------------- */
@@ -748,7 +748,8 @@ LAPD_STATUS lapd_lines(lapd_card *card, uint32_t *lines);
  * out of range. */
 uint32_t lapd_image_octets(const lapd_config *config);
 
-/* Writes the image of a card in front of `image`, and *length is how many octets it has. The card stays as it is.
+/* Writes the image of a card in front of `image`, and *length is how many octets it has. Octets after these do not change, nor does
+ * the card.
  * LAPD_WRONG_LENGTH: `room` is less than an image of this card may have, and nothing is written. (A card of lapd.c has room for its
  * image in its own memory, unless that is compiled with -DLAPD_NO_IMAGES: then these calls are not there.) */
 LAPD_STATUS lapd_card_save(lapd_card *card, uint8_t *image, size_t room, size_t *length);

@@ -52,12 +52,14 @@ impl Text {
         self.number(number);
     }
 
+    /// Puts a word, after a space unless it begins a line.
     #[inline(never)]
     pub(crate) fn word(&mut self, word: &str) {
         self.space();
         self.put(word.as_bytes());
     }
 
+    /// Puts a number, after a space unless it begins a line.
     #[inline(never)]
     pub(crate) fn number(&mut self, number: u64) {
         self.space();
@@ -70,7 +72,7 @@ impl Text {
         self.put(b"\n");
     }
 
-    /// Puts lines that a function writes.
+    /// The octets so far, after which another writer puts whole lines.
     pub(crate) fn lines(&mut self) -> &mut Vec<u8> {
         &mut self.octets
     }

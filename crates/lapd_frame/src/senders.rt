@@ -33,7 +33,7 @@ fn packet_sapi(sapi: u16) -> u8
     if 1 <= sapi && sapi <= 62 {
         sapi as u8
     } else {
-        Service::Packet.sapi()
+        Service::Packet.usual_sapi()
     }
 }
 
@@ -45,7 +45,7 @@ fn exchanged(own: u16, sapi: u8) -> u8
     ensures small { sapi < 64 → result < 64 }
 {
     // That of call control, which most frames have, stands for itself.
-    if sapi == Service::Call.sapi() {
+    if sapi == Service::Call.usual_sapi() {
         return sapi;
     }
     exchanged_other(own, sapi)
@@ -60,8 +60,8 @@ fn exchanged_other(own: u16, sapi: u8) -> u8
 {
     let packet = packet_sapi(own);
     if sapi == packet {
-        Service::Packet.sapi()
-    } else if sapi == Service::Packet.sapi() {
+        Service::Packet.usual_sapi()
+    } else if sapi == Service::Packet.usual_sapi() {
         packet
     } else {
         sapi

@@ -14,8 +14,8 @@ pub enum Service {
 }
 
 impl Service {
-    /// The service's number: its SAPI, or 16 for the second service, whatever its SAPI on a line.
-    pub fn sapi(self) -> u8
+    /// The SAPI that a service has unless a card has another for it: 0, or 16 for the second service. So it is its number, too.
+    pub fn usual_sapi(self) -> u8
         ensures { result ≡ sapi_of self }
     {
         match self {

@@ -170,7 +170,7 @@ impl LinkLayer {
     {
         let unit = self.units.oldest()?;
         let address = Address {
-            sapi: unit.service.sapi(),
+            sapi: unit.service.usual_sapi(),
             command: true,
             tei: unit.tei,
         };

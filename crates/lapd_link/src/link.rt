@@ -144,7 +144,7 @@ impl Link {
         ensures { result ≡ address_at (terms_of self.now) command }
     {
         Address {
-            sapi: self.terms.service.sapi(),
+            sapi: self.terms.service.usual_sapi(),
             command,
             tei: self.terms.tei,
         }

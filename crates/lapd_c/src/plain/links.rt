@@ -26,7 +26,7 @@ impl PlainLink {
         ensures { result ≡ plain_link place state }
     {
         PlainLink {
-            service: service_at(place).sapi(),
+            service: service_at(place).usual_sapi(),
             tei: place / 2,
             state,
         }

@@ -34,7 +34,7 @@ impl PlainNote {
             Note::Unit(service, tei) => of_link(6, service, tei),
             Note::Error(service, tei, code) => PlainNote {
                 note: 7,
-                service: service.sapi(),
+                service: service.usual_sapi(),
                 tei,
                 error: code.letter() as u8,
             },
@@ -54,7 +54,7 @@ fn of_link(note: u8, service: Service, tei: u8) -> PlainNote
 {
     PlainNote {
         note,
-        service: service.sapi(),
+        service: service.usual_sapi(),
         tei,
         error: 0,
     }

@@ -148,7 +148,7 @@ impl PlainReport {
             None => self.reopened = 0,
             Some(place) => {
                 self.reopened = 1;
-                self.reopened_service = service_at(place).sapi();
+                self.reopened_service = service_at(place).usual_sapi();
                 self.reopened_tei = place / 2;
             }
         }

@@ -91,8 +91,8 @@ impl PlainTimer {
         ensures { self.new ≡ plain_timer timer }
     {
         let (service, tei) = match timer {
-            Timer::T200(service, tei) => (service.sapi(), tei),
-            Timer::T203(service, tei) => (service.sapi(), tei),
+            Timer::T200(service, tei) => (service.usual_sapi(), tei),
+            Timer::T203(service, tei) => (service.usual_sapi(), tei),
             Timer::T201 | Timer::T202 => (0, 0),
         };
         self.timer = match timer {

@@ -21,7 +21,7 @@ load-requires g c =
     let same : c.get.result.now ≡ o.unit.contents = same_Some c.get.result.now o.unit.contents (sym c.get.ensures.octets ∙ o.contents) in
     record {
       free = c.requires.free;
-      frame = is_frame c.in_ok-unit.unit.service c.sapi.result c.in_ok-unit.unit.tei c.sapi.ensures (omega (arith, o.tei, o.fits.tei));
+      frame = is_frame c.in_ok-unit.unit.service c.usual_sapi.result c.in_ok-unit.unit.tei c.usual_sapi.ensures (omega (arith, o.tei, o.fits.tei));
       info = omega (arith, c.requires.room, o.fits.size, ap (λ l. length l) same);
     }
 
@@ -31,7 +31,7 @@ returns g c =
     let t = g.S.Shelf.store c.release.new.self in
     subst (λ o. Takes (λ c' m. unit_taken c' m) c.args.self.now s (g.O.Outlet.loading c.args.out.now) (record c.args.self.now { units = c.pop.new.self }) t (g.O.Outlet.loading c.load.new.out) (Some o)) (sym c.none.ensures)
     (subst (λ r. Takes (λ c' m. unit_taken c' m) c.args.self.now s (g.O.Outlet.loading c.args.out.now) (record c.args.self.now { units = r }) t (g.O.Outlet.loading c.load.new.out) (Some [])) (sym c.pop.ensures)
-    (unit_loaded c.args.self.now s t (g.O.Outlet.loading c.args.out.now) (g.O.Outlet.loading c.load.new.out) c.in_ok-unit.unit c.sapi.result c.get.result.now (sym c.in_ok-unit.ensures) c.sapi.ensures c.get.ensures.octets
+    (unit_loaded c.args.self.now s t (g.O.Outlet.loading c.args.out.now) (g.O.Outlet.loading c.load.new.out) c.in_ok-unit.unit c.usual_sapi.result c.get.result.now (sym c.in_ok-unit.ensures) c.usual_sapi.ensures c.get.ensures.octets
     c.release.ensures.released c.release.ensures.limits c.load.ensures.room c.load.ensures.reference
-    (subst (λ sender. Loads (spelling sender (record { address = record { sapi = c.sapi.result; command = true; tei = c.in_ok-unit.unit.tei }; control = Ui false; info = c.get.result.now })) (g.O.Outlet.loading c.args.out.now) (g.O.Outlet.loading c.load.new.out))
+    (subst (λ sender. Loads (spelling sender (record { address = record { sapi = c.usual_sapi.result; command = true; tei = c.in_ok-unit.unit.tei }; control = Ui false; info = c.get.result.now })) (g.O.Outlet.loading c.args.out.now) (g.O.Outlet.loading c.load.new.out))
     c.own_side.ensures c.load.ensures.loaded)))

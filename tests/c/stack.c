@@ -17,7 +17,7 @@
 #ifndef MOST
 #define MOST 2048
 #define MOST_OF_START 6144
-#define MOST_OF_RESTORE 8192
+#define MOST_OF_RESTORE 7168
 #define MOST_OF_TEXT MOST
 #endif
 

@@ -120,7 +120,7 @@ pub fn save(
 }
 
 /// Writes what an image has before the timers.
-// (Apart, it stands once in what a program and the library in C have in common.)
+// (Apart, as `restore_card`.)
 #[inline(never)]
 pub(crate) fn save_card(
     card: &AnyCard,
@@ -183,8 +183,6 @@ fn save_waits(lines: usize, waits: &[u16; MOST_LINES], out: &mut [u8], at: usize
 ///
 /// [`ImageFault::BadImage`] if these octets are the image of no card that may be saved; and [`ImageFault::OutOfMemory`] if
 /// memory is refused.
-// (Apart, as `save_card`.)
-#[inline(never)]
 pub fn restore(alloc: Global, octets: &[u8]) -> Result<Restored, ImageFault>
     ensures read { IfOk result (λ restored. IsRestoredFrom octets.now restored.card restored.waits restored.timers) }
     ensures lines { IfOk result (λ restored. IfSome restored.timers (λ timers. timers.lines ≡ line_count restored.card)) }

@@ -42,6 +42,8 @@ pub(super) fn restore_head(reader: &mut Reader<'_>) -> Result<(CardKind, bool), 
 }
 
 /// Reads a configuration, and then the card of this kind that has it. It takes memory as a start.
+// (Apart, it stands once in what a program and the library in C have in common.)
+#[inline(never)]
 pub(super) fn restore_card(
     alloc: Global,
     kind: CardKind,

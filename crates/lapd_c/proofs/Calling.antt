@@ -85,7 +85,7 @@ pub refused_request : (line : ℕ) (asked : Request) (m : Card) → why_in (answ
 refused_request line asked m = ap why_in (answer_is m line asked) ∙ why_told (refusal_at line asked m) _
 
 -- What a card stands for, and what it has counted, is of that card alone.
-same_held : (a b : HeldCard) → option_map without_marks b ≡ option_map without_marks a → ((m : Machine) → StandsIn a m → StandsIn b m) × (counters_held b ≡ counters_held a)
+pub same_held : (a b : HeldCard) → option_map without_marks b ≡ option_map without_marks a → ((m : Machine) → StandsIn a m → StandsIn b m) × (counters_held b ≡ counters_held a)
 same_held None None is = (λ m s. s, refl)
 same_held None (Some b) is = absurd (none-some b.card (sym is))
 same_held (Some a) None is = absurd (none-some a.card is)

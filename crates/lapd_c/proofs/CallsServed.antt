@@ -93,7 +93,7 @@ marked : (number : ℕ) (orders : List Order) (m m' : Card) (o n : Option CardTi
 marked number orders m m' None n h c marks s k = absurd s
 marked number orders m m' (Some timers) n h c marks s k = h.noted c marks s k
 
-card_after : (e : Event) (m : Machine) → machine.after e (card_in m) ≡ card_in (any.after e m)
+pub card_after : (e : Event) (m : Machine) → machine.after e (card_in m) ≡ card_in (any.after e m)
 card_after e (with_ports m) = refl
 card_after e (alone m) = refl
 
@@ -118,12 +118,12 @@ module _ (asked : Asked) (old new : CardHandle) (result : ℕ) (before r : Plain
       let same = c.unchanged bad in
       record { told = is; stands = same.stands m s; timers = same.timers; counters = same.counters m s; report = c.call.unwritten bad }
 
-  is_wrong : (m : Machine) (status : ℕ) → IsAt asked old m → asked.event (card_in m) ≡ Err status → result ≡ status
+  pub is_wrong : (m : Machine) (status : ℕ) → IsAt asked old m → asked.event (card_in m) ≡ Err status → result ≡ status
   is_wrong m status a is =
       subst (λ e. IfErr e (λ wrong. result ≡ wrong)) is
       (each_card asked.cards old m (λ m. asked.line < (card_in m).config.lines → IfErr (asked.event (card_in m)) (λ wrong. result ≡ wrong)) a.stands a.of_card c.wrong a.has_line)
 
-  is_not_ok : (m : Machine) (status : ℕ) → IsAt asked old m → asked.event (card_in m) ≡ Err status → status ≢ 0
+  pub is_not_ok : (m : Machine) (status : ℕ) → IsAt asked old m → asked.event (card_in m) ≡ Err status → status ≢ 0
   is_not_ok m status a is =
       subst (λ e. IfErr e (λ wrong. wrong ≢ 0)) is
       (each_card asked.cards old m (λ m. asked.line < (card_in m).config.lines → IfErr (asked.event (card_in m)) (λ wrong. wrong ≢ 0)) a.stands a.of_card c.not_ok a.has_line)
@@ -135,7 +135,7 @@ module _ (asked : Asked) (old new : CardHandle) (result : ℕ) (before r : Plain
       (each_card asked.cards old m (λ m. asked.line < (card_in m).config.lines → IfOk (asked.event (card_in m)) (λ e. IfSome (why_refused e m) (λ why. result ≡ refusal_status why)))
       a.stands a.of_card c.refused a.has_line))
 
-  is_served : (m : Machine) (e : Happening) → IsAt asked old m → asked.event (card_in m) ≡ Ok e → why_refused e m ≡ None → Served e m old new result r
+  pub is_served : (m : Machine) (e : Happening) → IsAt asked old m → asked.event (card_in m) ≡ Ok e → why_refused e m ≡ None → Served e m old new result r
   is_served m e a is none =
       subst (λ (q : Result Happening ℕ). IfOk q (λ e. why_refused e m ≡ None → Served e m old new result r)) is
       (each_card asked.cards old m (λ m. asked.line < (card_in m).config.lines → IfOk (asked.event (card_in m)) (λ e. why_refused e m ≡ None → Served e m old new result r))
@@ -239,7 +239,7 @@ tells_pull r begun more orders s = record {
   more = s.more;
 }
 
-begun_stands : (m : Machine) (held : HeldCard) → HasBegun m held → StandsIn held m
+pub begun_stands : (m : Machine) (held : HeldCard) → HasBegun m held → StandsIn held m
 begun_stands m None b = absurd b
 begun_stands m (Some kept) b = b.stands
 

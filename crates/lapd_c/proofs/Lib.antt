@@ -29,7 +29,6 @@ pub mod Saving
 pub mod ClockSaving
 pub mod ClockAgain
 pub mod ClockStays
-pub mod SavesServed
 pub mod Waits
 pub mod Blocks
 pub mod BlockMade
@@ -41,6 +40,9 @@ pub mod Numbers
 pub mod CallsWrite
 pub mod HandlesLeft
 pub mod CallsServed
+pub mod CardStays
+pub mod WaitsAgain
+pub mod SavesServed
 pub mod CallEvents
 pub mod QuestionsServed
 pub mod QuestionsAnswered

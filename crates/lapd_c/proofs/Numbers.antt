@@ -221,4 +221,15 @@ numbers_are_given_by = record {
   room = λ r. refl;
   no_head = refl;
   head = λ h. refl;
+  counters = record {
+    frames_heard = refl;
+    frames_begun = refl;
+    of_frames = refl;
+    dropped = refl;
+    errors = refl;
+    notes = refl;
+    messages_heard = refl;
+    messages_begun = refl;
+    all = refl;
+  };
 }

@@ -1,6 +1,6 @@
 -- What questions are answered.
 use Rattle.std.specs.Prelude.{◌==◌, ◌+◌, ◌-◌, ◌++◌, ◌||◌, Result, Err, slice_get, fold, find, flat_map, map, is_some, if◌then◌else◌}
-use Rattle.lapd_c.proofs.Vocabulary.{◌≡◌, ◌∷◌, ◌<◌, ℕ, suc, Bool, true, false, cond, Option, None, Some, IfSome, Ok, option_map, List, [], length, inl, inr, refl, sym, ap, ◌∙◌, arith, not, nat_lt, cases_lt, and_parts, false≢true, Card, Line, Machine, with_ports, alone, card_in, OctetCard, Service, answer, at, next}
+use Rattle.lapd_c.proofs.Vocabulary.{◌≡◌, ◌∷◌, ◌<◌, ℕ, suc, Bool, true, false, cond, Option, None, Some, IfSome, Ok, option_map, List, [], length, inl, inr, refl, sym, ap, subst, ◌∙◌, arith, not, nat_lt, cases_lt, and_parts, false≢true, Card, Line, Machine, with_ports, alone, card_in, OctetCard, Service, answer, at, next}
 use Rattle.std.proofs.lemmas.Bool.{lt-ltb, ltb-true, ne_eqb}
 use Rattle.std.specs.Option.{option_map_or, unwrap_or}
 use Rattle.model_bits.specs.Heads.{head_of, or_later}
@@ -37,6 +37,10 @@ use Rattle.lapd_c.specs.Heads.{plain_head}
 use Rattle.lapd_c.proofs.FramesComing.{coming}
 use Rattle.lapd_c.specs.QuestionWords.{begun_frame_of, begun_of, heard_frame_of, in_front, link_counters_at, link_counters_of, or_status, room_at, room_of, room_told, state_of, waiting_from}
 use Rattle.lapd_c.specs.Changed.{changed_at, changed_of}
+use Rattle.lapd_timed.specs.declared.card_timers.CardTimers.{CardTimers}
+use Rattle.lapd_c.specs.CardSlots.{HeldCard}
+use Rattle.lapd_c.specs.Cards.{StandsIn}
+use Rattle.lapd_c.specs.Kept.{ChangesStandIn, timers_held}
 use Rattle.lapd_c.specs.ChangesAnswered.{ChangesAreAnswered, number_in}
 use Rattle.lapd_c.proofs.Halves.{even, odd}
 use Rattle.lapd_tei.proofs.Tables.{place_of-is}
@@ -192,6 +196,9 @@ changes_are_answered = record {
   of_link = of_link;
   told = λ is result after t. t;
   not_told = λ wrong result after t. t;
+  its_card = λ line service tei result after h kept timers m marks told is own stands changes.
+      told m marks (subst (λ (held : HeldCard). StandsIn held m) (sym is) stands)
+      (subst (λ (held : Option CardTimers). ChangesStandIn held (card_in m) marks) (sym (ap timers_held is ∙ own)) changes);
 }
 
 -- ---- frames that begin and are heard

@@ -1,6 +1,6 @@
 -- What saves and restores come to.
 use Rattle.std.proofs.Common.{arith, inl, inr, ◌≡◌, ◌≢◌, ◌⊎◌, ℕ, ◌+◌, ◌*◌, ◌<◌, ◌≤◌, Bool, true, false, cond, List, length, take, refl, sym, ap, ◌∙◌, subst}
-use Rattle.std.specs.Prelude.{Option, Some, None, Ok, Err, Result, IfSome, is_some, option_map}
+use Rattle.std.specs.Prelude.{Option, Some, None, Ok, Err, Result, IfSome, is_some, option_map, if◌then◌else◌}
 use Rattle.std.proofs.lemmas.Bool.{false≢true, le-ltb, lt-ltb}
 use Rattle.std.proofs.lemmas.Option.{same_Some}
 use Rattle.lapd_card.specs.Image.{begun_as}
@@ -15,6 +15,9 @@ use Rattle.model_image.specs.Most.{most_line, most_octets}
 use Rattle.model_image.specs.Sound.{IsSaved}
 use Rattle.model_image.specs.Restored.{IsRestored}
 use Rattle.model_image.proofs.Restored.{a_restored_card_goes_on}
+use Rattle.model_image.proofs.Whole.{images_are_read}
+use Rattle.model_card.specs.declared.kinds.CardKind.TheVariants as kinds
+use Rattle.lapd_c.specs.Waiting.{card_waits}
 use Rattle.model_line.specs.Line.{link_count}
 use Rattle.model_line.specs.declared.config.Config.{Config}
 use Rattle.model_link.specs.declared.rooms.Room.{Room}
@@ -22,7 +25,7 @@ use Rattle.std.proofs.Math.Nat.{mul-le-mul_left}
 use Rattle.lapd_c.specs.declared.card.CardHandle.{CardHandle}
 use Rattle.lapd_c.specs.declared.link_marks.LinkMarks.{LinkMarks}
 use Rattle.lapd_c.specs.CardSlots.{HeldCard}
-use Rattle.lapd_c.specs.Cards.{card_of, marks_held, StandsIn}
+use Rattle.lapd_c.specs.Cards.{card_of, marks_at, marks_held, HandleStands, StandsIn}
 use Rattle.lapd_c.specs.ClockImages as clock_image
 use Rattle.lapd_c.specs.ClockImages.{IsClockRestore, IsSavedAs}
 use Rattle.lapd_c.specs.ClockSlots.{HeldClock}
@@ -32,13 +35,15 @@ use Rattle.lapd_c.specs.Kept.{timers_held}
 use Rattle.lapd_c.specs.LinkPlaces.{service_at}
 use Rattle.lapd_c.specs.Reopened.{is_room}
 use Rattle.lapd_c.specs.Saves.{image_octets, save_status, HandleHolds, HandleReads}
-use Rattle.lapd_c.specs.SavesServed.{GoesOnFrom, SavesAreServed}
+use Rattle.lapd_c.specs.SavesServed.{BeginsAnew, GoesOnFrom, SavesAreServed}
 use Rattle.lapd_c.specs.Waits.{Waits}
+use Rattle.lapd_c.proofs.CardStays.{card_begun, card_restored, card_stays, timed_card_begun}
 use Rattle.lapd_c.proofs.ClockAgain.{same_clock}
 use Rattle.lapd_c.proofs.ClockStays.{applied, begun, fallen, lengthened, reported}
 use Rattle.lapd_c.proofs.HandlesLeft.{clock_left}
 use Rattle.lapd_c.proofs.MostOctets.{most_of}
 use Rattle.lapd_c.proofs.Saving.{its, timed_alike}
+use Rattle.lapd_c.proofs.WaitsAgain.{still_waits, waited}
 
 -- ---- what a status tells
 
@@ -77,25 +82,55 @@ its_room : (r : Result Room Refusal) → is_room r ≡ true → (left : Room) ×
 its_room (Ok left) is = (left, refl)
 its_room (Err why) is = absurd (false≢true is)
 
-goes_on : (s : Saved) (image : List ℕ) (new : CardHandle) (held : HeldCard) → card_of new ≡ held → image ≡ image_of s → IsSaved s → HandleReads image held → GoesOnFrom s new
-goes_on s image new None is same saved read = absurd read
-goes_on s image new (Some kept) is same saved read =
+begins_anew : (t : Saved) (new : CardHandle) → HandleStands new (begun_as (kind_in t) t.card) → BeginsAnew t new
+begins_anew t new stands = record {
+  octets = λ e. subst (λ b. HandleStands new (begun_as (if b then kinds.Octets else kinds.Frames) t.card)) e stands;
+  frames = λ e. subst (λ b. HandleStands new (begun_as (if b then kinds.Octets else kinds.Frames) t.card)) e stands;
+}
+
+anew : (image : List ℕ) (new : CardHandle) (held : HeldCard) → card_of new ≡ held → HandleReads image held → (s : Saved) × IsRestored image s × BeginsAnew s new
+anew image new None is read = absurd read
+anew image new (Some kept) is read =
+    (read.saved, read.restored, begins_anew read.saved new (subst (λ held. StandsIn held (begun_as (kind_in read.saved) read.saved.card)) (sym is) read.begins))
+
+-- The marks of what is held are those that are saved.
+waits_held : (held : HeldCard) (s : Saved) → HandleHolds held s → card_waits s.card (marks_held held) ≡ s.waits
+waits_held None s holds = absurd holds
+waits_held (Some kept) s holds = holds.waits
+
+goes_on : (s : Saved) (image : List ℕ) (old new : CardHandle) (held : HeldCard) → HandleHolds (card_of old) s → card_of new ≡ held → image ≡ image_of s → IsSaved s
+    → HandleReads image held → GoesOnFrom s old new
+goes_on s image old new None holds is same saved read = absurd read
+goes_on s image old new (Some kept) holds is same saved read =
     let t = read.saved in
     let again : IsRestored (image_of s) t = record { saved = read.restored.saved; same = read.restored.same ∙ same } in
     let on = a_restored_card_goes_on s t saved again in
+    let alike = images_are_read s t saved again.saved (sym again.same) in
+    let begun : HandleStands new (begun_as (kind_in t) t.card) = subst (λ held. StandsIn held (begun_as (kind_in t) t.card)) (sym is) read.begins in
+    let here : card_waits t.card (marks_at new) ≡ t.waits = ap (λ held. card_waits t.card (marks_held held)) is ∙ read.held.waits in
+    let there = waits_held (card_of old) s holds in
+    let has_room : (line tei : ℕ) (service : Service) → line < t.card.config.lines → Waits (marks_at new) line service tei
+    → (left : Room) × (room line service tei t.card ≡ Ok left) = λ line tei service within w.
+    let marked = subst (λ (all : List LinkMarks). Waits all line service tei) (ap marks_held is) w in
+    its_room (room line service tei t.card)
+    (subst (λ (of : Service). is_room (room line of tei t.card) ≡ true) marked.of_service
+    (subst (λ (n : ℕ). is_room (room line (service_at marked.place) n t.card) ≡ true) marked.of_tei
+    (read.marked line marked.place within marked.within marked.marked))) in
     record {
       restored = t;
       read = again;
       holds = subst (λ held. HandleHolds held t) (sym is) read.held;
       goes_on = on;
-      stands = subst (λ held. StandsIn held (begun_as (kind_in t) t.card)) (sym is) read.begins;
+      stands = begun;
+      kind = sym alike.kind;
+      anew = begins_anew t new begun;
+      lines = ap (λ held. length (marks_held held)) is ∙ read.lines;
       timed = ap (λ held. is_some (timers_held held)) is ∙ sym (timed_alike kept.timers t.clock t read.held.timers) ∙ ap is_some on.clock;
-      waits = λ line tei service within w.
-          let marked = subst (λ (all : List LinkMarks). Waits all line service tei) (ap marks_held is) w in
-          its_room (room line service tei t.card)
-          (subst (λ (of : Service). is_room (room line of tei t.card) ≡ true) marked.of_service
-          (subst (λ (n : ℕ). is_room (room line (service_at marked.place) n t.card) ≡ true) marked.of_tei
-          (read.marked line marked.place within marked.within marked.marked)));
+      waits = has_room;
+      still = λ line tei service left within w room. still_waits s t saved.card again.saved.card alike (marks_at old) (marks_at new) there here line within tei service left w room;
+      no_other = λ line tei service within w.
+          let left = has_room line tei service (subst (λ c. line < c.lines) alike.config within) w in
+          waited s t saved.card again.saved.card alike (marks_at old) (marks_at new) there here line within tei service left.0 w left.1;
     }
 
 clock_goes_on : (c : Timers) (image : List ℕ) (lines : List (List _)) (held : HeldClock) → image ≡ clocks.image c lines → clocks.IsSaved c → clocks.AreItsTimers c lines
@@ -153,7 +188,7 @@ saves_are_served_by = record {
       (its (λ c. clocks.IsSaved c → clocks.most_octets c ≤ length before.0 → IsSavedAs c before.0 after) (clock_of old) c is save.saved saved room).2.2;
   again = λ old same other new before after s save held room r.
       let is = save.saved s held room in
-      goes_on s (take after.1 after.0) new (card_of new) refl is.1.1 is.0 (r.restored refl);
+      goes_on s (take after.1 after.0) old new (card_of new) held refl is.1.1 is.0 (r.restored refl);
   taken = λ old same other new result before after s save held room r none.
       let is = save.saved s held room in
       all_but_bad result (r.otherwise none) (λ e. r.bad_image e s is.0 (sym is.1.1));
@@ -163,6 +198,7 @@ saves_are_served_by = record {
   clock_taken = λ old same other new result before after c save saved is room r none.
       let front = its (λ c. clocks.IsSaved c → clocks.most_octets c ≤ length before.0 → IsSavedAs c before.0 after) (clock_of old) c is save.saved saved room in
       all_but_bad result (r.otherwise none) (λ e. r.bad_image e c front.0 saved front.1 front.2.1);
+  anew = λ image old new r. anew image new (card_of new) refl (r.restored refl);
   clock_begins = begun;
   clock_restored = λ image old new c r is. read_saved image (clock_of new) c (r.restored refl) is;
   clock_stays = λ c saved. record {
@@ -171,4 +207,8 @@ saves_are_served_by = record {
     fallen = λ now. fallen c now saved;
     lengthened = λ lengths. lengthened lengths c saved;
   };
+  card_begins = card_begun;
+  timed_card_begins = timed_card_begun;
+  card_restored = card_restored;
+  card_stays = card_stays;
 }

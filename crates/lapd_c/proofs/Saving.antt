@@ -86,6 +86,7 @@ read_again image waits kept all timers refused own marked from =
         timers = subst (λ own. MayBeSaved own s.clock s) (sym own) from.stands.kept;
       };
       begins = from.begins;
+      lines = ap (λ (ls : List LinkMarks). length ls) refused ∙ marks.count;
       marked = λ line place within few is.
           marked_there s.card waits all marks line place within few (subst (λ (ls : List LinkMarks). is_marked (marks_of ls line) place ≡ true) refused is);
     }

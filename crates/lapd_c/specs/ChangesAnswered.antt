@@ -1,12 +1,17 @@
 -- When the state of a link changed last, as a question is told it, in words of the marks that stand beside the card.
-use Rattle.std.specs.Prelude.{◌≡◌, ◌≢◌, ℕ, nat_lt, true, Ok, Err, if◌then◌else◌}
+use Rattle.std.specs.Prelude.{◌≡◌, ◌≢◌, ◌<◌, ℕ, nat_lt, true, Some, Ok, Err, if◌then◌else◌}
 use Rattle.std.specs.Option.{unwrap_or}
 use Rattle.lapd_frame.specs.declared.services.Service.{Service}
+use Rattle.lapd_card.specs.Kinds.{card_in, AnyStands, Machine}
+use Rattle.lapd_timed.specs.Stands.{ChangesStand}
+use Rattle.lapd_timed.specs.declared.card_timers.CardTimers.{CardTimers}
 use Rattle.model_link.specs.Link.{state_number}
 use Rattle.model_line.specs.Line.{Line, has_tei, link_number, link_of, place_in}
 use Rattle.model_card.specs.Card.{Card, line_at}
 use Rattle.model_timed.specs.Changes.{Marks, standing}
-use Rattle.lapd_c.specs.Changed.{TellsWord, changed_of}
+use Rattle.lapd_c.specs.declared.card.CardHandle.{CardHandle}
+use Rattle.lapd_c.specs.declared.kept.KeptCard.{KeptCard}
+use Rattle.lapd_c.specs.Changed.{TellsWord, WithMarks, changed_of}
 use Rattle.lapd_c.specs.Services.{number_of}
 
 -- The number of the link of a service with a TEI that is on the line: its mark stands by it.
@@ -23,3 +28,8 @@ pub record ChangesAreAnswered : Type 0 where
   -- If there is one, it is written, and the status is OK; else the status says why.
   pub told : (is result after : ℕ) → TellsWord (Ok is) result after → (result ≡ 0) × (after ≡ is)
   pub not_told : (wrong result after : ℕ) → TellsWord (Err wrong) result after → (result ≡ wrong) × (wrong ≢ 0)
+  -- So it is told of each card that keeps its own timers, and of the marks that these have noted.
+  pub its_card : (line service tei result after : ℕ) (h : CardHandle) (kept : KeptCard) (timers : CardTimers) (m : Machine) (marks : Marks)
+      → WithMarks h (λ m marks. line < m.config.lines → TellsWord (changed_of line service tei m marks) result after)
+      → h.slot.card ≡ Some kept → kept.timers ≡ Some timers → AnyStands kept.card m → ChangesStand timers (card_in m) marks
+      → line < (card_in m).config.lines → TellsWord (changed_of line service tei (card_in m) marks) result after

@@ -13,6 +13,7 @@ pub mod Requests
 pub mod Reports
 pub mod Answers
 pub mod Counters
+pub mod CountersPlaced
 pub mod ClockSlots
 pub mod Clocks
 pub mod ClockLends

@@ -14,6 +14,7 @@ use Rattle.model_line.specs.declared.config.Field.TheVariants as field
 use Rattle.model_line.specs.declared.faults.Fault.TheVariants as fault
 use Rattle.model_line.specs.Request.{Request, Establish, Release, Data, Unit, Assign, Remove, Check, Disown, AskTei, VerifyTei, SetBusy, ClearBusy, Deactivate, Down}
 use Rattle.model_link.specs.declared.rooms.Room.{Room}
+use Rattle.lapd_c.specs.CountersPlaced.{CountersArePlaced}
 use Rattle.lapd_c.specs.Clocks.{lengths_given, plain_due}
 use Rattle.lapd_c.specs.Faults.{fault_in}
 use Rattle.lapd_c.specs.Heads.{plain_head}
@@ -163,3 +164,5 @@ pub record NumbersAreGiven : Type 0 where
   pub room : (r : Room) → plain_room r ≡ record { pool = r.pool; queue = r.queue; va = r.va }
   pub no_head : plain_head None ≡ record { length = 0; octets = 0 ∷ 0 ∷ 0 ∷ 0 ∷ [] }
   pub head : (h : Head) → plain_head (Some h) ≡ record { length = h.length; octets = h.octets }
+  -- What is counted of a line.
+  pub counters : CountersArePlaced

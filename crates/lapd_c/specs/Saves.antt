@@ -53,12 +53,14 @@ pub record IsCardSave (old new : CardHandle) (result : ℕ) (before after : List
   pub saved : (s : Saved) → HandleHolds (card_of old) s → most_octets s.card.config (is_timed old) ≤ length before.0
       → IsSaved s × StandsInFront (image_of s) before.0 after
 
--- What an image says is held: its ports begin anew, and no link waits whose TEI is not on the line.
+-- What an image says is held: its ports begin anew, each line has a place for its links that wait, and no link waits whose TEI is
+-- not on the line.
 pub record IsRead (image : List ℕ) (kept : KeptCard) : Type 0 where
   pub saved : Saved
   pub restored : IsRestored image saved
   pub held : IsHeldAs kept saved
   pub begins : AnyStands kept.card (begun_as (kind_in saved) saved.card)
+  pub lines : length kept.refused ≡ saved.card.config.lines
   pub marked : (line place : ℕ) → line < saved.card.config.lines → place < 254 → is_marked (marks_of kept.refused line) place ≡ true → is_there line saved.card place ≡ true
 
 abbrev pub HandleReads : List ℕ → HeldCard → Type 0

@@ -80,7 +80,8 @@ pub fn questions_are_answered()
 /// A card and a clock in C are saved and restored as `include/lapd.h` says. A save changes nothing but the octets of its image, and
 /// so much room as `lapd_image_octets` tells is enough for it. A restore begins one if none is there, or finds no memory, or no
 /// image; if it is not OK, nothing changes. It takes the image of each card that is there. The restored card then goes on as the
-/// saved one would, as one whose ports begin anew, and a clock is as it was. Each clock in C may be saved, from its start on.
+/// saved one would, as one whose ports begin anew, and a clock is as it was. Each card and each clock in C may be saved: from its
+/// start or its restore on, after each call.
 #[tactic(auto, using(crate::proofs::SavesServed::saves_are_served_by))]
 pub fn saves_are_served()
     ensures { SavesAreServed }

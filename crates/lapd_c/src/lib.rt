@@ -27,14 +27,13 @@
 //!
 //! `tests/c/run` and `tests/c/declared`: starts; that all memory is given back; that structs, prototypes and
 //! statuses are as `lapd.h` has them, and its inline functions. Stored scripts are played, call by call and by
-//! `lapd_exchange`. A card of frames and one of octets, to which the same happens at random, tell the same. Images
-//! have the same octets by every build and processor; a changed one is refused, or is that of what it gives. A gateway
-//! of 64 lines runs a day with terminals that nobody here wrote; on demand (`tests/interop`) these also beside a card of
-//! octets, at a trunk, and as its terminals.
+//! `lapd_exchange`. Images have the same octets by every build and processor; a changed one is refused, or is that of
+//! what it gives. A gateway of 64 lines runs a day with terminals that nobody here wrote (`tests/interop` has more).
 //!
 //! # Open
 //!
-//! What a C compiler makes of `lapd.h`; what happens to a caller that breaks the conditions at its top.
+//! What a C compiler makes of `lapd.h`; what happens to a caller that breaks the conditions at its top; that a save and a
+//! restore stand within one run, except on a card of frames whose caller keeps the timers.
 #![tactic(auto)]
 
 mod card;

@@ -1,7 +1,9 @@
 //! `lapdsim image FILE` puts the image of a card into words: what it is asked for, how the file is read, and why it is not
 //! told.
 
-ghost use Rattle.std.specs.Prelude.{◌≤◌, length, IfOk};
+ghost use Rattle.std.specs.Prelude.{◌≡◌, ◌≢◌, ◌≤◌, length, IfOk, None};
+ghost use Rattle.lapd_script.specs.Job.{job};
+ghost use Rattle.lapd_script.specs.Words.{texts};
 
 use crate::restored::in_words;
 use crate::tell;
@@ -19,7 +21,9 @@ const FAILED: u8 = 1;
 const TOO_MANY: usize = 4 << 20;
 
 /// The file whose image these words ask for; nothing for words that ask for work of another kind.
-pub(crate) fn asked<'a>(words: &[&'a str]) -> Option<&'a str> {
+pub(crate) fn asked<'a>(words: &[&'a str]) -> Option<&'a str>
+    ensures no_work { job (texts words.now) ≢ None → result ≡ None }
+{
     match words {
         [word, file] => { if *word == "image" { Some(*file) } else { None } }
         _ => None,

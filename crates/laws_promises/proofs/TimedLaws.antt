@@ -27,6 +27,7 @@ use Rattle.model_timed.specs.Frames as of_frames_machine
 use Rattle.model_timed.specs.Frames.{frames}
 use Rattle.model_timed.specs.Octets as of_octets_machine
 use Rattle.model_timed.specs.Octets.{octets}
+use Rattle.model_timed.proofs.Marking.{changes_are_told, octet_changes_are_told}
 use Rattle.model_timed.proofs.RunTheSame.{octet_timers_run_the_same, timers_run_the_same}
 use Rattle.model_timed.proofs.True.{timers_are_true}
 use Rattle.laws_promises.specs.FrameDrive.{FramesKeepLaws}
@@ -136,6 +137,8 @@ module _ (c : TimedCard) (events : List rust.TimedEvent) (may : All (MayHappen (
     octets = record { machine = are-steps octets; leads = events-led of_octets octets-driven; timers_are_true = timers_are_true octets };
     timers_run_the_same = timers_run_the_same;
     octet_timers_run_the_same = octet_timers_run_the_same;
+    changes_are_told = changes_are_told;
+    octet_changes_are_told = octet_changes_are_told;
     frames_keep = frames-keep-laws;
     octets_keep = octets-keep-laws;
   }

@@ -16,10 +16,10 @@ use Rattle.model_card.specs.ports.Event as octet
 use Rattle.model_card.specs.ports.Port as port
 use Rattle.model_card.specs.ports.Run as octets_run
 use Rattle.model_card.specs.ports.Run.{meant_all}
-use Rattle.model_timed.specs.Changes.{itself, inside}
+use Rattle.model_timed.specs.Changes.{itself, inside, ChangesAreTold}
 use Rattle.model_timed.specs.Frames as timed
-use Rattle.model_timed.specs.Frames.{frames}
-use Rattle.model_timed.specs.Octets.{octets, TimedOctetCard}
+use Rattle.model_timed.specs.Frames.{frames, fresh}
+use Rattle.model_timed.specs.Octets.{octets, TimedOctetCard, fresh as octets_fresh}
 use Rattle.model_timed.specs.RunTheSame.{TimersRunTheSame, OctetTimersRunTheSame}
 use Rattle.model_timed.specs.Timed.{Step, happens, time, falls_due}
 use Rattle.lapd_card.specs.Drive.{KeepsLaws}
@@ -113,6 +113,9 @@ pub record TimedKeepLaws (card : TimedCard) (events : List rust.TimedEvent) : Ty
   -- The timers that run are those that its lines run.
   pub timers_run_the_same : TimersRunTheSame
   pub octet_timers_run_the_same : OctetTimersRunTheSame
+  -- What is noted of a link (`run`) is its state, and the moment of the last step by which this became another.
+  pub changes_are_told : ChangesAreTold of_frames.kind of_frames.sees fresh
+  pub octet_changes_are_told : ChangesAreTold of_octets.kind of_octets.sees octets_fresh
   -- All laws of lists of events hold of those that the steps mean, and all promises.
   pub frames_keep : (t : timed.TimedCard) → FramesStand card t → FramesKeepLaws shelf_of (frames_of card.card) (events_in of_frames.kind (frame_steps card events) t)
   pub octets_keep : (t : TimedOctetCard) → OctetsStand card t → OctetsKeepLaws card.card (events_in of_octets.kind (octet_steps events) t)

@@ -38,7 +38,8 @@ const LONGEST: usize = MOST_N201 as usize + 4;
 ///   is refused is answered, and changes nothing.
 /// - `laws`: the events that they mean, with an expiry of each timer that fell due, lead the card without its timers there. So
 ///   of these all laws of [`crate::drive_frames`] hold, or of octets those of [`crate::drive`], and all promises. Each timer
-///   falls due as long after its last start as it runs, and those run that their lines run.
+///   falls due as long after its last start as it runs, and those run that their lines run. What is noted of a link is its
+///   state, and the moment of the last step by which this became another.
 ///
 /// # Errors
 ///

@@ -1,9 +1,9 @@
 -- What each event makes of the contents of a link, of V(A) and of V(S).
-use Rattle.laws_link.proofs.Vocabulary.{◌≡◌, ℕ, ◌+◌, ◌≤◌, Bool, true, false, cond, List, [], ◌∷◌, ◌++◌, length, take, drop, Option, Some, None, is_some, refl, ◌⊎◌, inl, inr, sym, subst, true≢false, arith, length-take-le, append-nil, drop-drop, add-zero, ⊎_elim, All, nat_lt, nat_le, option_map_or, drop_all, drop-append-le, All-head, Control, Ui, ErrorCode, Refusal, WrongState, State, TeiAssigned}
+use Rattle.laws_link.proofs.Vocabulary.{◌≡◌, ℕ, ◌+◌, ◌≤◌, Bool, true, false, cond, List, [], ◌∷◌, length, take, drop, Option, Some, None, is_some, refl, ◌⊎◌, inl, inr, sym, subst, true≢false, arith, length-take-le, append-nil, drop-drop, add-zero, ⊎_elim, All, nat_lt, nat_le, option_map_or, drop_all, drop-append-le, All-head, Control, Ui, ErrorCode, Refusal, WrongState, State, TeiAssigned}
 use Rattle.laws_link.proofs.Vocabulary.{LinkCounts, with_counted, expire_running}
 use Rattle.laws_link.proofs.Vocabulary.{AwaitingEstablishment, AwaitingRelease, Established, TimerRecovery, LinkTimer, T200, ControlFrame, Terms, Link, is_multiple_frame, IsSettledIn, IsSound, IsWaitingFrame, Course, begun, Step, ◌then◌, nothing, changed, Leads, nothing_leads, number_of, acknowledged_by, contents_asked, is_release, tells_loss, Share, share, left_by, with_share, unit_due}
 use Rattle.laws_link.proofs.Vocabulary.{is_i_frame, i_frames, begin_anew, deliver_unit, long_unit_in_7_8, malformed_down, pending_is, start, unit_data, give_information, give_waiting, is_awaiting_acknowledgement, may_send_information, offer_among, send_acknowledgement, with_one_sent, course, expired_in, expired_step, frame_in, frame_step, given_of, is_running, malformed_in, told_of_clearing}
-use Rattle.laws_link.proofs.Vocabulary.{both_ways, ap, ◌∙◌, ◌||◌, zero-add}
+use Rattle.laws_link.proofs.Vocabulary.{both_ways, ◌||◌, zero-add}
 use Rattle.model_link.specs.Events
 use Rattle.model_link.specs.Requests
 use Rattle.laws_link.proofs.Queueing.{On, words}
@@ -42,9 +42,7 @@ pub done : (all : List (List ℕ)) (a s n : ℕ) (all' : List (List ℕ)) (a' s'
 done all a s n all' a' s' loss zeroed unit given_up few h = grind (arith, by-going, by-emptying, by-restarting)
   where
     by-going : Goes all a s n all' a' s' loss zeroed unit given_up → Done (row zeroed loss n) all a s 0 all' a' s'
-    by-going g =
-        let x : Comes (row false false n) all a (all ++ []) (a + n) = grind (arith, drop-append-le, drop-drop) in
-        grind (arith, append-nil)
+    by-going g = grind (arith, drop-append-le, drop-drop, append-nil)
 
     by-emptying : Empties all a all' a' s' loss zeroed unit given_up → Done (row zeroed loss n) all a s 0 all' a' s'
     by-emptying g =
@@ -226,18 +224,13 @@ module _ (t : Terms) (l : Link) (h : IsSound t l) where
 
   gone-by : (n : ℕ) (c : Course) → Moved n c → Gone (tells_loss c.notes) c
   unfolding Moved
-  gone-by n c m = ⊎_elim (λ g. g.none_gone ∙ sym (ap (λ b. cond b (length (drop l.a l.contents)) 0) g.no_loss))
-      (λ other. ⊎_elim (λ g. g.all_gone ∙ sym (ap (λ b. cond b (length (drop l.a l.contents)) 0) g.told)) (λ g. g.gone) other) m
+  gone-by n c m = grind (arith, ⊎_elim, cond, length, drop)
 
   unit-gone : (long : Step) → Moved 0 (long (begun l)) → (octets : List ℕ) → let c = unit_data t long octets (begun l) in Gone (tells_loss c.notes) c
   unit-gone long m octets = both_ways (λ c. Gone (tells_loss c.notes) c) (nat_lt t.n201 (length octets)) _ _ (gone-by 0 (long (begun l)) m) refl
 
   ui-gone : (here : State) (b : Bool) (octets : List ℕ) (p : Bool) → let c = frame_in here t b octets (Ui p) (begun l) in Gone (tells_loss c.notes) c
-  ui-gone TeiAssigned b octets p = unit-gone (malformed_down t ErrorCode.O) (malformed TeiAssigned ErrorCode.O) octets
-  ui-gone AwaitingEstablishment b octets p = unit-gone (malformed_down t ErrorCode.O) (malformed AwaitingEstablishment ErrorCode.O) octets
-  ui-gone AwaitingRelease b octets p = unit-gone (malformed_down t ErrorCode.O) (malformed AwaitingRelease ErrorCode.O) octets
-  ui-gone Established b octets p = unit-gone (long_unit_in_7_8 t) long-unit octets
-  ui-gone TimerRecovery b octets p = unit-gone (long_unit_in_7_8 t) long-unit octets
+  ui-gone h b octets p = grind (arith, unit-gone, malformed_down, malformed, long_unit_in_7_8, long-unit)
 
   frame-gone : (b : Bool) (octets : List ℕ) (control : Control) → (d : Bool) → is_ui control ≡ d
       → let c = frame_step t b octets control (begun l) in Gone (tells_loss c.notes) c
@@ -246,25 +239,17 @@ module _ (t : Terms) (l : Link) (h : IsSound t l) where
   frame-gone b octets other true e = absurd (true≢false (sym e))
 
   release-gone : (here : State) → l.state ≡ here → Requests.serves here Events.Release ≡ true → Gone true (Requests.release_in here t (begun l))
-  release-gone TeiAssigned e s = none-kept t l h.ordered h.accepted (settled TeiAssigned e)
-  release-gone Established e s = zero-add _
-  release-gone TimerRecovery e s = zero-add _
-  release-gone other e s = absurd (true≢false (sym s))
+  release-gone other e s = grind (arith, none-kept, settled, zero-add, true≢false)
 
   granted-gone : (request : Events.Request) (o : Option Refusal) → cond (Requests.serves l.state request) o (Some WrongState) ≡ None
       → Gone (is_release request || tells_loss (Requests.granted t request (begun l)).notes) (Requests.granted t request (begun l))
   unfolding Moved
-  granted-gone Events.Establish o e = gone-by 0 (Requests.granted t Events.Establish (begun l)) (established_in_4 t l h.ordered h.accepted)
-  granted-gone Events.Release o e = release-gone l.state refl (served (Requests.serves l.state Events.Release) o e)
-  granted-gone (Events.Data octets) o e = refl
-  granted-gone Events.SetBusy o e = gone-by 0 (Requests.granted t Events.SetBusy (begun l)) (set_busy t l h.ordered h.accepted)
-  granted-gone Events.ClearBusy o e = gone-by 0 (Requests.granted t Events.ClearBusy (begun l)) (clear_busy t l h.ordered h.accepted)
+  granted-gone h o e = grind (arith, gone-by, begun, established_in_4, release-gone, served, set_busy, clear_busy)
 
   requested-gone : (request : Events.Request) (full : Bool) (o : Option Refusal) → Requests.refusal t l full request ≡ o
       → let c = elim o as (λ o. Course) [ None ↦ Requests.granted t request (begun l) | Some _ ↦ begun l ] in
       Gone (cond (is_some o) false (is_release request) || tells_loss c.notes) c
-  requested-gone request full None e = granted-gone request (Requests.refusal_for_room t l full request) e
-  requested-gone request full (Some w) e = refl
+  requested-gone request full h e = grind (arith, granted-gone)
 
   clears-gone : (here : State) → Gone true (begin_anew (told_of_clearing here t (begun l)))
   clears-gone here = grind (arith, zero-add)
@@ -293,11 +278,7 @@ module _ (t : Terms) (l : Link) (h : IsSound t l) where
 
   unit-told : (here : State) (b : Bool) (octets : List ℕ) (p : Bool)
       → (frame_in here t b octets (Ui p) (begun l)).unit ≡ cond (nat_le (length octets) t.n201) (Some octets) None
-  unit-told TeiAssigned b octets p = by-length (malformed_down t ErrorCode.O (begun l)) (no-unit 0 _ (malformed TeiAssigned ErrorCode.O)) octets (nat_lt t.n201 (length octets)) refl
-  unit-told AwaitingEstablishment b octets p = by-length (malformed_down t ErrorCode.O (begun l)) (no-unit 0 _ (malformed TeiAssigned ErrorCode.O)) octets (nat_lt t.n201 (length octets)) refl
-  unit-told AwaitingRelease b octets p = by-length (malformed_down t ErrorCode.O (begun l)) (no-unit 0 _ (malformed TeiAssigned ErrorCode.O)) octets (nat_lt t.n201 (length octets)) refl
-  unit-told Established b octets p = by-length (long_unit_in_7_8 t (begun l)) (no-unit 0 _ long-unit) octets (nat_lt t.n201 (length octets)) refl
-  unit-told TimerRecovery b octets p = by-length (long_unit_in_7_8 t (begun l)) (no-unit 0 _ long-unit) octets (nat_lt t.n201 (length octets)) refl
+  unit-told h b octets p = grind (arith, by-length, malformed_down, begun, no-unit, malformed, nat_lt, length, long_unit_in_7_8, long-unit)
 
   set-busy : Moved 0 (Requests.granted t Events.SetBusy (begun l))
   unfolding Moved

@@ -48,8 +48,7 @@ module _ (t : Terms) (l : Link) (ordered : l.a ≤ l.s) (most : l.s ≤ length l
 
   -- State 4.
   pub frames_in_4 : length l.contents ≡ l.a → (octets : List ℕ) (control : Control) → is_ui control ≡ false → On (Move 0) (frame_in_4 t octets control (begun l))
-  frames_in_4 none octets (Dm false) is = still (read_as t leave_unserved (establish_in_4 t)) (search words)
-  frames_in_4 none octets control is = grind (arith, none-left, none-kept, begins, still, words)
+  frames_in_4 none octets control is = grind (arith, still, read_as, leave_unserved, establish_in_4, words, none-left, none-kept, begins)
 
   pub released_in_4 : length l.contents ≡ l.a → On (Move 0) (release_in_4 t (begun l))
   released_in_4 none = grind (arith, all-taken, none-kept)

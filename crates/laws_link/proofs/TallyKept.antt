@@ -1,9 +1,8 @@
 -- The counts of a link are what they say.
-use Rattle.laws_link.proofs.Vocabulary.{◌≡◌, ℕ, ◌+◌, ◌-◌, ◌≤◌, ◌==◌, Bool, true, false, cond, ◌&&◌, IsTrue, true≢false, List, [], ◌∷◌, list_any, refl, sym, ap, subst, ◌∙◌, arith, nat_lt, All, All-nil, All-cons, All-head, All-tail, Terms, Link, fresh, is_multiple_frame, Event, received, expired, requested, offer, cleared, frame, undefined, wrong_size, overlong, after, after_all}
-use Rattle.laws_link.proofs.Vocabulary.{IsInRange, IsSound, IsWaitingFrame, sound-after, sound-fresh, is_running}
+use Rattle.laws_link.proofs.Vocabulary.{◌≡◌, ℕ, ◌+◌, ◌-◌, ◌≤◌, ◌==◌, Bool, true, false, cond, ◌&&◌, IsTrue, true≢false, List, [], ◌∷◌, list_any, refl, sym, subst, ◌∙◌, arith, nat_lt, All, Terms, Link, fresh, is_multiple_frame, Event, received, expired, requested, offer, cleared, frame, undefined, wrong_size, overlong, after, after_all}
+use Rattle.laws_link.proofs.Vocabulary.{IsInRange, IsSound, sound-after, sound-fresh, is_running}
 use Rattle.std.specs.Prelude.{min}
 use Rattle.model_link.specs.Sound.{is_information}
-use Rattle.model_link.specs.declared.frames.ControlFrame.{ControlFrame}
 unfoldable use Rattle.laws_link.specs.Counting.{tally}
 use Rattle.laws_link.specs.Counting.{Tally, nothing_yet, one_if, with_event, at_most, is_t200, receives_rej, establishes, sends_rej, sends_information}
 use Rattle.laws_link.proofs.Tallying.{one, counted_by, of-received, of-expired, of-requested, of-offer}
@@ -21,8 +20,7 @@ record Stands (t : Terms) (l : Link) (n : Tally) : Type 0 where
   within : IsTrue (is_multiple_frame l.state) → l.s + l.again ≤ l.a + t.k
 
 one-more : (b : Bool) (x : ℕ) → one b (min x 65535) ≡ min (one_if b x) 65535
-one-more true x = omega arith
-one-more false x = refl
+one-more h x = grind arith
 
 -- an I-frame more: the next, or one that goes again
 sent-more : (s again i : ℕ) (ns : List ℕ) → among i ns ≡ nat_lt i (s + again) → among i (s ∷ ns) ≡ nat_lt i ((s + 1) + (again - 1))
@@ -64,16 +62,11 @@ module _ (t : Terms) (ranges : IsInRange t) (l : Link) (n : Tally) (h : Stands t
       go : (b : Bool) → establishes e l ≡ b → IsTrue (is_multiple_frame (after t e l).state) → (i : ℕ)
           → among i (cond b [] (cond (sends_information t e l) (l.s ∷ n.numbers) n.numbers)) ≡ nat_lt i ((after t e l).s + (after t e l).again)
       go true is up i = grind (arith, nat_lt)
-      go false is up i =
-          let y = x.goes_on is up in
-          ap (λ b. among i (cond b (l.s ∷ n.numbers) n.numbers)) none ∙ h.numbers (subst (λ b. IsTrue b) (sym y.0) refl) i ∙ ap (λ m. nat_lt i m) (sym y.2)
+      go false is up i = grind (arith, cond, nat_lt)
 
       go-within : (b : Bool) → establishes e l ≡ b → IsTrue (is_multiple_frame (after t e l).state) → (after t e l).s + (after t e l).again ≤ (after t e l).a + t.k
       go-within true is up = let y = x.begins is in omega (arith, y.0, y.1)
-      go-within false is up =
-          let y = x.goes_on is up in
-          let w : l.s + l.again ≤ l.a + t.k = h.within (subst (λ b. IsTrue b) (sym y.0) refl) in
-          omega (arith, y.1, y.2, w)
+      go-within false is up = grind arith
 
   by-offer : Gives l (sends_information t offer l) (after t offer l) → (after t offer l).counts ≡ counted_by t offer l → Stands t (after t offer l) (more offer)
   by-offer x is = record {
@@ -95,21 +88,12 @@ module _ (t : Terms) (ranges : IsInRange t) (l : Link) (n : Tally) (h : Stands t
       go false none up i = grind arith
 
       go-within : (b : Bool) → sends_information t offer l ≡ b → IsTrue (is_multiple_frame l.state) → (after t offer l).s + (after t offer l).again ≤ (after t offer l).a + t.k
-      go-within true some up =
-          let y = x.sent some in
-          let w : l.s + l.again ≤ l.a + t.k = h.within up in
-          let v : (after t offer l).s ≤ (after t offer l).a + t.k = sound.within in
-          omega (arith, y.1, y.2, w, v, x.a)
+      go-within true some up = grind (arith, after)
       go-within false none up = let y = x.other none in let w : l.s + l.again ≤ l.a + t.k = h.within up in omega (arith, y.0, y.1, w, x.a)
 
   -- nothing that waits is an I-frame
   no-information : All (λ f. is_information f.control ≡ false) l.waiting
-  no-information = go l.waiting h.sound.frames
-    where
-      go : (ws : List ControlFrame) → All (IsWaitingFrame t) ws → All (λ f. is_information f.control ≡ false) ws
-      go [] all = All-nil (λ f. is_information f.control ≡ false)
-      go (f ∷ fs) all =
-          All-cons (λ f. is_information f.control ≡ false) f fs (All-head (IsWaitingFrame t) f fs all).without_contents (go fs (All-tail (IsWaitingFrame t) f fs all))
+  no-information = grind (arith, is_information)
 
   each : (e : Event) → Stands t (after t e l) (with_event t e l n)
   each (received (frame f)) = by-turns (received (frame f)) refl (of-received t l (frame f)) (frame-turns t l h.sound.ordered near l.state refl f.address.command f.info f.control)
@@ -127,5 +111,4 @@ all-stand t ranges [] l n h = h.counts
 all-stand t ranges (e ∷ es) l n h = all-stand t ranges es (after t e l) (with_event t e l n) (each t ranges l n h e)
 
 pub counts-are : (t : Terms) (es : List Event) → IsInRange t → (after_all t es fresh).counts ≡ at_most (tally t es fresh nothing_yet)
-counts-are t es ranges =
-    all-stand t ranges es fresh nothing_yet (record { sound = sound-fresh t ranges; counts = refl; numbers = λ up. absurd (true≢false (sym up)); within = λ up. absurd (true≢false (sym up)) })
+counts-are t es ranges = grind (arith, all-stand, fresh, nothing_yet, sound-fresh, true≢false)

@@ -1,8 +1,8 @@
 -- How many I-frames go again, after each event.
-use Rattle.laws_link.proofs.Vocabulary.{◌≡◌, ℕ, ◌+◌, ◌-◌, ◌≤◌, Bool, true, false, cond, IsTrue, List, [], ◌∷◌, Option, None, Some, refl, sym, true≢false, arith, both_ways, nat_lt, Seq, named, named-within, Control, Information, ReceiveReady, ReceiveNotReady, Reject, Refusal, ErrorCode, State, TeiAssigned, AwaitingEstablishment}
-use Rattle.laws_link.proofs.Vocabulary.{AwaitingRelease, Established, TimerRecovery, ControlFrame, Terms, Link, LinkTimer, LinkCounts, T200, T203, is_multiple_frame, Request, offer, Course, Step, begun, with_expiry, with_counted, after, expired_in, frame_in, frame_in_7, frame_in_8}
+use Rattle.laws_link.proofs.Vocabulary.{◌≡◌, ℕ, ◌+◌, ◌-◌, ◌≤◌, Bool, true, false, cond, IsTrue, List, [], ◌∷◌, Option, None, Some, refl, sym, true≢false, arith, both_ways, nat_lt, Seq, named, named-within, Control, Refusal, ErrorCode, State, TeiAssigned, AwaitingEstablishment}
+use Rattle.laws_link.proofs.Vocabulary.{AwaitingRelease, Established, TimerRecovery, ControlFrame, Terms, Link, LinkTimer, LinkCounts, is_multiple_frame, Request, offer, Course, Step, begun, with_expiry, with_counted, after, expired_in, frame_in, frame_in_7, frame_in_8}
 use Rattle.laws_link.proofs.Vocabulary.{◌then◌, with_reject_received, answered, peer_busy_is, unsolicited, solicited, length, is_final, error, re_establish, malformed_in, granted, release_in, offer_among, by_number, acknowledge, contents_in_7_8, information_in_7_8, acknowledged_in_7, acknowledged_by_information_in_7, acknowledged_by_rej_in_7, acknowledged_by_rnr_in_7, acknowledged_in_8}
-use Rattle.laws_link.proofs.Vocabulary.{subst, frame_in_4, frame_in_5, frame_in_6, All, All-head, option_map_or, give_waiting, may_send_information, is_awaiting_acknowledgement, with_one_sent, changed, start, pending_is, give_information, send_acknowledgement, given_of}
+use Rattle.laws_link.proofs.Vocabulary.{subst, frame_in_4, frame_in_5, frame_in_6, All, All-head, option_map_or, give_waiting, may_send_information, is_awaiting_acknowledgement, with_one_sent, start, send_acknowledgement, given_of}
 use Rattle.model_link.specs.Sound.{is_information}
 use Rattle.laws_link.specs.Counting.{establishes_in, sends_information}
 
@@ -89,18 +89,10 @@ module _ (t : Terms) (l : Link) (low : l.a ≤ l.s) (near : l.s + l.again ≤ l.
   counted = record { a = refl; s = refl; again = refl }
 
   frames-7 : (b : Bool) (octets : List ℕ) (control : Control) → establishes_in Established control ≡ false → Goes (frame_in_7 t b octets control (begun l))
-  frames-7 b octets (Information ns nr p) e = information ns nr p octets acknowledged_by_information_in_7 information-7
-  frames-7 b octets (ReceiveReady nr pf) e = λ up. numbered nr acknowledged_in_7 in-7 (heard (unsolicited t) false b pf (begun l)) (heard-7 false b pf (begun l) first) up
-  frames-7 b octets (ReceiveNotReady nr pf) e = λ up. numbered nr acknowledged_by_rnr_in_7 rnr-7 (heard (unsolicited t) true b pf (begun l)) (heard-7 true b pf (begun l) first) up
-  frames-7 b octets (Reject nr pf) e = λ up. numbered nr acknowledged_by_rej_in_7 rej-7 (heard (unsolicited t) false b pf (begun (with_counted with_reject_received l))) (heard-7 false b pf (begun (with_counted with_reject_received l)) counted) up
-  frames-7 b octets control e = λ up. grind arith
+  frames-7 b octets control e = grind (arith, information, acknowledged_by_information_in_7, information-7, numbered, acknowledged_in_7, in-7, unsolicited, heard-7, first, rnr-7, rej-7, counted)
 
   frames-8 : (b : Bool) (octets : List ℕ) (control : Control) → establishes_in TimerRecovery control ≡ false → Goes (frame_in_8 t b octets control (begun l))
-  frames-8 b octets (Information ns nr p) e = information ns nr p octets acknowledge acked
-  frames-8 b octets (ReceiveReady nr pf) e = λ up. numbered nr (acknowledged_in_8 T203 (is_final b pf)) (in-8 T203 (is_final b pf)) (heard solicited false b pf (begun l)) (heard-8 false b pf (begun l) first) up
-  frames-8 b octets (ReceiveNotReady nr pf) e = λ up. numbered nr (acknowledged_in_8 T200 (is_final b pf)) (in-8 T200 (is_final b pf)) (heard solicited true b pf (begun l)) (heard-8 true b pf (begun l) first) up
-  frames-8 b octets (Reject nr pf) e = λ up. numbered nr (acknowledged_in_8 T203 (is_final b pf)) (in-8 T203 (is_final b pf)) (heard solicited false b pf (begun (with_counted with_reject_received l))) (heard-8 false b pf (begun (with_counted with_reject_received l)) counted) up
-  frames-8 b octets control e = λ up. grind arith
+  frames-8 b octets control e = grind (arith, information, acknowledge, acked, numbered, acknowledged_in_8, is_final, in-8, solicited, begun, heard-8, first, counted)
 
 -- Each event but an offer.
 module _ (t : Terms) (l : Link) where
@@ -180,18 +172,11 @@ module _ (t : Terms) (l : Link) where
   either true u v x y = x refl
   either false u v x y = y
 
-  abbrev informing : Course
-  informing = (give_information then changed with_one_sent then pending_is false) (begun l)
-
   waits : (f : ControlFrame) (fs : List ControlFrame) → is_information f.control ≡ false → Given_ (give_waiting f fs (begun l))
   waits f fs none = grind arith
 
   offers : (ws : List ControlFrame) → All (λ f. is_information f.control ≡ false) ws → Given_ (offer_among t ws (begun l))
-  offers [] none =
-      let is : may_send_information t l ≡ true → Given_ informing = grind arith in
-      either (may_send_information t l) (cond (is_awaiting_acknowledgement (with_one_sent l)) informing (start T200 informing)) (cond l.pending (send_acknowledgement (begun l)) (begun l))
-      (λ may. either (is_awaiting_acknowledgement (with_one_sent l)) informing (start T200 informing) (λ x. is may) (grind (arith, is)))
-      (either l.pending (send_acknowledgement (begun l)) (begun l) (λ x. grind arith) (grind arith))
+  offers [] none = grind (arith, may_send_information, either, cond, is_awaiting_acknowledgement, with_one_sent, start, send_acknowledgement, begun)
   offers (f ∷ fs) none = waits f fs (All-head (λ f. is_information f.control ≡ false) f fs none)
 
   pub offer-gives : All (λ f. is_information f.control ≡ false) l.waiting → Gives l (sends_information t offer l) (after t offer l)

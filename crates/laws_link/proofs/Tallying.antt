@@ -1,10 +1,10 @@
 -- What each event makes of the counts of a link.
-use Rattle.laws_link.proofs.Vocabulary.{◌≡◌, ℕ, Bool, true, false, cond, ◌&&◌, List, [], ◌∷◌, Option, None, Some, refl, arith, both_ways, nat_lt, Control, Refusal, ErrorCode, State, TeiAssigned, AwaitingEstablishment, AwaitingRelease, Established, TimerRecovery, ControlFrame, Terms, Link, LinkTimer, LinkCounts, T200}
-use Rattle.laws_link.proofs.Vocabulary.{is_multiple_frame, Request, Event, received, expired, requested, offer, frame, undefined, wrong_size, overlong, Course, begun, with_expiry, with_counted, after, expired_in, frame_in, malformed_in, granted, release_in, refusal, offer_among, is_running, given_of}
-use Rattle.laws_link.proofs.Vocabulary.{◌then◌, changed, start, pending_is, give_information, send_acknowledgement, All, All-head, option_map_or, give_waiting, may_send_information, is_awaiting_acknowledgement, with_one_sent, with_information_sent}
+use Rattle.laws_link.proofs.Vocabulary.{◌≡◌, ℕ, Bool, true, false, cond, ◌&&◌, List, [], ◌∷◌, Option, None, Some, refl, arith, both_ways, nat_lt, Refusal, State, ControlFrame, Terms, Link, LinkTimer, LinkCounts}
+use Rattle.laws_link.proofs.Vocabulary.{Request, Event, received, expired, requested, offer, frame, Course, begun, with_expiry, with_counted, after, expired_in, granted, release_in, refusal, offer_among, is_running, given_of}
+use Rattle.laws_link.proofs.Vocabulary.{start, send_acknowledgement, All, All-head, option_map_or, give_waiting, may_send_information, is_awaiting_acknowledgement, with_one_sent, with_information_sent}
 use Rattle.model_link.specs.Counts.{one_more}
 use Rattle.model_link.specs.Sound.{is_information}
-use Rattle.laws_link.specs.Counting.{is_rej, establishes_in, is_t200, receives_rej, establishes, sends_rej, sends_information}
+use Rattle.laws_link.specs.Counting.{is_rej, is_t200, receives_rej, establishes, sends_rej, sends_information}
 
 abbrev pub one : Bool → ℕ → ℕ
 one b n = cond {A = ℕ} b (one_more n) n
@@ -19,43 +19,10 @@ counted_by t e l = record {
   established = one (establishes e l) l.counts.established;
 }
 
--- what a frame counts
-abbrev pub with_frame : Bool → Bool → LinkCounts → LinkCounts
-with_frame rejects anew k = record k { rejects_received = one rejects k.rejects_received; established = one anew k.established }
-
-module _ (t : Terms) (l : Link) (b : Bool) (octets : List ℕ) (control : Control) where
-  abbrev Counted : State → Type 0
-  Counted here = (frame_in here t b octets control (begun l)).link.counts ≡ with_frame (is_rej control && is_multiple_frame here) (establishes_in here control) l.counts
-
-  counted-4 : Counted TeiAssigned
-  counted-4 = grind arith
-
-  counted-5 : Counted AwaitingEstablishment
-  counted-5 = grind arith
-
-  counted-6 : Counted AwaitingRelease
-  counted-6 = grind arith
-
-  counted-7 : Counted Established
-  counted-7 = grind arith
-
-  counted-8 : Counted TimerRecovery
-  counted-8 = grind arith
-
-  pub frame-counted : (here : State) → Counted here
-  frame-counted TeiAssigned = counted-4
-  frame-counted AwaitingEstablishment = counted-5
-  frame-counted AwaitingRelease = counted-6
-  frame-counted Established = counted-7
-  frame-counted TimerRecovery = counted-8
-
 module _ (t : Terms) (l : Link) where
   -- nothing is counted
   abbrev Still : Course → Type 0
   Still c = c.link.counts ≡ l.counts
-
-  malformed : (here : State) (e : ErrorCode) → Still (malformed_in here t e (begun l))
-  malformed here e = grind arith
 
   expired-counts : (here : State) (timer : LinkTimer) → Still (expired_in here timer t (begun l))
   expired-counts here timer = grind (arith, both_ways)
@@ -89,14 +56,8 @@ module _ (t : Terms) (l : Link) where
   information : (g : ℕ) → l.again ≡ g → with_information_sent g l.counts ≡ record l.counts { sent_again = one (nat_lt 0 g) l.counts.sent_again }
   information g e = grind arith
 
-  abbrev informing : Course
-  informing = (give_information then changed with_one_sent then pending_is false) (begun l)
-
   offers : (ws : List ControlFrame) → All (λ f. is_information f.control ≡ false) ws → Offered (offer_among t ws (begun l))
-  offers [] none =
-      let is : Offered informing = information l.again refl in
-      either (may_send_information t l) (cond (is_awaiting_acknowledgement (with_one_sent l)) informing (start T200 informing)) (cond l.pending (send_acknowledgement (begun l)) (begun l))
-      (either (is_awaiting_acknowledgement (with_one_sent l)) informing (start T200 informing) is is) (either l.pending (send_acknowledgement (begun l)) (begun l) refl refl)
+  offers [] none = grind (arith, information, either, may_send_information, cond, is_awaiting_acknowledgement, with_one_sent, start, send_acknowledgement, begun)
   offers (f ∷ fs) none = waits f fs (All-head (λ f. is_information f.control ≡ false) f fs none)
 
 module _ (t : Terms) (l : Link) where
@@ -104,10 +65,7 @@ module _ (t : Terms) (l : Link) where
   expiries timer b e = grind (arith, expired-counts t (with_counted (with_expiry timer) l) l.state timer)
 
   pub of-received : (r : Rattle.model_link.specs.Events.Received) → (after t (received r) l).counts ≡ counted_by t (received r) l
-  of-received (frame f) = frame-counted t l f.address.command f.info f.control l.state
-  of-received undefined = malformed t l l.state ErrorCode.L
-  of-received wrong_size = malformed t l l.state ErrorCode.N
-  of-received overlong = malformed t l l.state ErrorCode.O
+  of-received h = grind arith
 
   pub of-expired : (timer : LinkTimer) → (after t (expired timer) l).counts ≡ counted_by t (expired timer) l
   of-expired timer = expiries timer (is_running timer l) refl

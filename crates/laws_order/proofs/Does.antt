@@ -1,5 +1,5 @@
 -- What an event of a line is to the link of a service with a TEI that is in state 7 or 8.
-use Rattle.laws_order.proofs.Vocabulary.{arith, ◌≡◌, ℕ, ◌==◌, ◌&&◌, ◌||◌, not, Bool, true, false, cond, IsTrue, List, [], ◌∷◌, ◌++◌, Ok, refl, sym, ap, ◌∙◌, subst, eq-eqb, true≢false, ◌⊎◌, inl, inr, All, fold, option_to_list, unwrap_or, list_any, All-head, All-tail, Ui, Note, Service, Parts, reading, sapi_of, State, Terms, Link, is_multiple_frame, address_at, Config, hears, expiry}
+use Rattle.laws_order.proofs.Vocabulary.{arith, ◌≡◌, ℕ, ◌==◌, ◌&&◌, ◌||◌, not, Bool, true, false, cond, IsTrue, List, [], ◌∷◌, ◌++◌, Ok, refl, sym, ap, ◌∙◌, eq-eqb, true≢false, ◌⊎◌, inl, inr, All, fold, option_to_list, unwrap_or, list_any, All-head, All-tail, Ui, Note, Service, Parts, reading, sapi_of, State, Terms, Link, is_multiple_frame, address_at, Config, hears, expiry}
 use Rattle.laws_order.proofs.Vocabulary.{request, next, Answer, heard_side, Line, link_of, terms, aim_of, accepted, is_up_in, notes_of, contents_in, up_by_note, is_up_of, of_link, is_granted, IsBy, timer_of, link-grants, not-refused, same-sapi, sapi-is, known-up, frame_in, is_own, seen, is_ui, unless, granted-data, data-noted, no-data, frames_given, is_at_link, HasOne, IsForeign, HasNone}
 use Rattle.laws_order.proofs.Vocabulary.{event-goes, read-again, frames_by, fresh, Event, is_of_link, of_link_in, data_noted, data_granted, ends_by_note, ends_by, of_link_on, stream_frame, link_frame, LinkEvent, Release, cleared, requested, overlong, undefined, wrong_size, offer, expired, received, NoteEstablishIndication, NoteData, NoteReleaseIndication, NoteRemoved, NoteEstablishConfirm}
 use Rattle.laws_order.proofs.Vocabulary.{NoteError, NoteXid, NoteAssigned, NoteReleaseConfirm, NoteDoubled, NoteUnit, or-true, event-follows, own_side}
@@ -8,7 +8,7 @@ use Rattle.laws_trace.proofs.DataAsked.{elsewhere}
 use Rattle.model_link.specs.Machine as links
 use Rattle.model_line.specs.Machine as lines
 use Rattle.model_line.specs.Sound as line_sound
-use Rattle.laws_order.proofs.LinkEnds.{Ended, own, Leaves, IsNoRelease, event-leaves, Fallen, undefined-falls, wrong-size-falls, overlong-falls, unit-data, Same}
+use Rattle.laws_order.proofs.LinkEnds.{Ended, own, Leaves, IsNoRelease, event-leaves, Fallen, undefined-falls, wrong-size-falls, overlong-falls, unit-data}
 use Rattle.laws_order.proofs.Shown.{fits, same-frames, noted-is, asked_in, granted-is, ends-is, request-ends}
 
 -- Where the notes of a link that was up say that it is down, one of them ends it.
@@ -186,9 +186,7 @@ module _ (c : Config) (service : Service) (tei : ℕ) where
       granted-one ev by kind = grind (arith, asked_in, granted-data, not-refused, link-grants)
 
       malformed-one : (x.event ≡ received undefined) ⊎ (x.event ≡ received wrong_size) ⊎ (x.event ≡ received overlong) → Does k k' e a
-      malformed-one (inl is) = fallen-one (received undefined) is (undefined-falls Own k up)
-      malformed-one (inr (inl is)) = fallen-one (received wrong_size) is (wrong-size-falls Own k up)
-      malformed-one (inr (inr is)) = fallen-one (received overlong) is (overlong-falls Own k up)
+      malformed-one h = grind (arith, fallen-one, undefined-falls, wrong-size-falls, overlong-falls)
 
       plain-one : IsKind e x.event → Leaves Own (links.told Own x.event k).notes (links.after Own x.event k).state → Does k k' e a
       plain-one kind leaves = go (is_multiple_frame (links.after Own x.event k).state) refl leaves
@@ -199,19 +197,12 @@ module _ (c : Config) (service : Service) (tei : ℕ) where
           go true still h = grind (arith, state-one, noted-one, granted-is, granted-one, same-frames, ends-one)
 
       release-one : (full : Bool) → x.event ≡ requested Release full → e ≡ request (of_link service tei Release) → is_granted a ≡ true → Does k k' e a
-      release-one full asked is g = inl (
-        subst (λ e'. list_any (ends_by service tei) (seen e' a) ≡ true) (sym is) (request-ends service tei (of_link service tei Release) a g (own Own)),
-        ap is_multiple_frame (state-one (requested Release full) asked) ∙ (grind (arith, event-follows)),
-      )
+      release-one full asked is g = grind (arith, request-ends, own, state-one, event-follows)
 
       one-does : Comes e a x.event → Does k k' e a
       one-does (is_malformed is) = malformed-one is
       one-does (is_release full is asked g) = release-one full is asked g
-      one-does (is_unit f is ui octets heard) = go (unit-data Own k f ui up)
-        where
-          go : Same Own k (links.course Own (received (link_frame f)) k) ⊎ Fallen Own (received (link_frame f)) k → Does k k' e a
-          go (inl same) = grind (arith, noted-one, option_to_list, granted-is, asked_in, same-frames, frames_given)
-          go (inr fallen) = fallen-one (received (link_frame f)) is fallen
+      one-does (is_unit f is ui octets heard) = grind (arith, unit-data, noted-one, option_to_list, granted-is, asked_in, same-frames, frames_given, fallen-one)
       one-does (is_plain kind may) = plain-one kind (event-leaves Own k up x.event may)
 
     pub line-does : Does k k' e a

@@ -1,5 +1,5 @@
 -- A release is told in the end: to the end that releases, whose RC counts the expiries of T200, and to the other before that.
-use Rattle.laws_order.proofs.Vocabulary.{◌≡◌, ℕ, ◌≤◌, Bool, true, false, List, [], ◌∷◌, ◌++◌, refl, sym, ap, ◌∙◌, arith, append-nil, true≢false, ◌⊎◌, inl, inr, All, list_any, All-nil, All-cons, All-head, All-tail, Service, other_side, AwaitingRelease, Link, is_multiple_frame, came, hears, expiry, request, next, Line, has_tei, terms, deactivates, Seen, Endpoint, Wire, requests, expires, sends}
+use Rattle.laws_order.proofs.Vocabulary.{◌≡◌, ℕ, ◌≤◌, Bool, true, false, List, [], ◌∷◌, ◌++◌, refl, sym, ap, ◌∙◌, arith, true≢false, ◌⊎◌, inl, inr, All, list_any, All-nil, All-cons, All-head, All-tail, Service, other_side, AwaitingRelease, Link, is_multiple_frame, came, hears, expiry, request, next, Line, has_tei, terms, deactivates, Seen, Endpoint, Wire, requests, expires, sends}
 use Rattle.laws_order.proofs.Vocabulary.{receives, turned, Event, line_of, AnyStep, step, disturbed, any_acting, AnyStepAt, any_near, any_far, IsPossible, IsPossibleAt, any_doing, any_doing_all, events_here, seen_by, seen_at_near, seen_near, seen_far, t200s, IsToldAtLast, ReleasesAreTold, StaysThere, IsNotDeactivated, BothAreTold, ends_by, StaysEstablished, news, IsToldOfRelease, flat_map-append}
 use Rattle.laws_order.proofs.Vocabulary.{news_in, own_side, heard_side, Reading, subst}
 use Rattle.laws_order.proofs.Beginning.{past-well, six-here, six-runs, on-here, begins-pair}
@@ -117,8 +117,7 @@ module _ (service : Service) (tei : ℕ) where
   far-split : (h : AnyStepAt) (hs : List AnyStepAt) (w : Wire) → StaysEstablished service tei (seen_far (h ∷ hs) w)
       → StaysEstablished service tei (seen_far (h ∷ []) w) × StaysEstablished service tei (seen_far hs (any_doing h w))
   unfolding seen_far
-  far-split (any_near act) hs w stays = (refl, stays)
-  far-split (any_far act) hs w stays = grind (arith, both-stay, append-nil)
+  far-split h hs w stays = grind arith
 
   never : (hs : List AnyStepAt) (w : Wire) → IsWell w.near → (Here w).state ≡ AwaitingRelease → Over w → All (IsOpen w) hs → StaysThere service tei hs w → All (IsNotDeactivated service tei) hs
       → StaysEstablished service tei (seen_far hs w) → news (reads service tei w) service tei (seen_near hs w) ≡ Confirm service tei → ⊥

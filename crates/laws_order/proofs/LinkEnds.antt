@@ -1,7 +1,7 @@
 -- An event of a link in state 7 or 8 leaves it there, or a note ends the establishment or renews it.
-use Rattle.laws_order.proofs.Vocabulary.{arith, ◌≡◌, ℕ, ◌==◌, ◌&&◌, ◌||◌, Bool, true, false, cond, IsTrue, List, [], ◌∷◌, ◌++◌, None, refl, sym, ap, ◌∙◌, subst, eq-eqb, ◌⊎◌, inl, inr, nat_lt, list_any, list_any-append, Control, Information, Sabme, Disc, ErrorCode, Note, Parts, Seq, State, AwaitingEstablishment, TimerRecovery, Terms, Link, is_multiple_frame, Received, received, undefined}
+use Rattle.laws_order.proofs.Vocabulary.{arith, ◌≡◌, ℕ, ◌==◌, ◌&&◌, ◌||◌, Bool, true, false, cond, IsTrue, List, [], ◌∷◌, ◌++◌, None, refl, ap, ◌∙◌, eq-eqb, ◌⊎◌, inl, inr, nat_lt, list_any, list_any-append, Control, Information, Sabme, Disc, ErrorCode, Note, Parts, Seq, State, AwaitingEstablishment, TimerRecovery, Terms, Link, is_multiple_frame, Received, received, undefined}
 use Rattle.laws_order.proofs.Vocabulary.{wrong_size}
-use Rattle.laws_order.proofs.Vocabulary.{overlong, is_overlong, requested, Release, Course, as_heard, is_invalid, receipt_of, is_faulty, by_frame, by_received, state_after, is_anew, error, told_by, told_by_frame, told_malformed, told_cleared, event-follows, service-same, is_own, is_ui, after, told, ends_by_note, NoteError, or-true}
+use Rattle.laws_order.proofs.Vocabulary.{overlong, is_overlong, requested, Release, Course, as_heard, is_invalid, receipt_of, is_faulty, by_frame, state_after, is_anew, error, told_by, told_by_frame, told_malformed, told_cleared, event-follows, service-same, is_own, is_ui, after, told, ends_by_note, NoteError, or-true}
 use Rattle.lapd_frame.specs.declared.notes.ErrorCode.TheVariants as code
 use Rattle.model_link.specs.Events.{Event, frame}
 use Rattle.model_link.specs.Machine
@@ -62,15 +62,7 @@ module _ (t : Terms) where
     -- What the grammar does not have, or was too long, ends it, and so does a release.
     malformed-falls : (e : Event) (r : Received) (why : ErrorCode) → is_anew why ≡ true → as_heard t e ≡ received r → is_faulty r l ≡ true
         → told_by t (received r) l (after t e l).state ≡ told_malformed l.state t why → Fallen e l
-    malformed-falls e r why anew heard faulty tells =
-        let x = (event-follows t e l).leaves in (
-          subst Ended (sym (x.tells ∙ ap (λ h. told_by t h l (after t e l).state) heard ∙ tells)) (grind (arith, error-ends)),
-          ap is_multiple_frame (x.state ∙ ap (λ h. state_after t h l) heard)
-              ∙ ap (λ b. is_multiple_frame (cond b AwaitingEstablishment (by_received t.reading l.state r))) (both-are (is_multiple_frame l.state) (is_faulty r l) up faulty),
-        )
-      where
-        both-are : (a b : Bool) → a ≡ true → b ≡ true → (a && b) ≡ true
-        both-are a b x y = ap (λ a. a && b) x ∙ y
+    malformed-falls e r why anew heard faulty tells = grind (arith, event-follows, error-ends, cond)
 
     pub undefined-falls : Fallen (received undefined) l
     undefined-falls = malformed-falls (received undefined) undefined code.L refl refl refl refl

@@ -1,5 +1,5 @@
 -- What an end is told of its link in state 6, and in state 4, whatever happens at it and at the other end.
-use Rattle.laws_order.proofs.Vocabulary.{Bool, false, ◌||◌, Config, Reading, Profile, AnnexB, NoCall, IsNotCalled, is_called, called, called_by}
+use Rattle.laws_order.proofs.Vocabulary.{Bool, ◌||◌, Reading, NoCall, IsNotCalled, is_called, called}
 use Rattle.laws_order.proofs.Vocabulary.{arith, ◌≡◌, ℕ, List, [], ◌∷◌, ◌++◌, refl, sym, ap, ◌∙◌, subst, append-nil, ◌⊎◌, inl, inr, All, list_any, All-head, All-tail, list_any-append, Note, Service, TeiAssigned, AwaitingRelease, Link, came, hears, expiry, request, next, after_is_sound, Seen, seen, Endpoint, Wire, requests, expires, sends, receives, loses, answered, happens, turned, flat_map-append}
 use Rattle.laws_order.proofs.Vocabulary.{Event, line_of, AnyStep, step, disturbed, elsewhere, any_acting, AnyStepAt, any_near, any_far, IsPossible, any_doing, IsPossibleAt, events_here, seen_by, seen_at_near, seen_near, data_noted, news, begins_by, BeginsNothing, IsToldOfRelease, ReleasesEnd, ReleasedIsOver, or_parts, at}
 use Rattle.laws_order.proofs.Beginning.{past-well, six-here, four-here}
@@ -38,7 +38,6 @@ module _ (service : Service) (tei : ℕ) where
   near-occurs (elsewhere e) w well is = grind (arith, after_is_sound, other-line)
 
   far-occurs : (act : AnyStep) (w : Wire) → IsWell w.far → Occurs (turned w) (turned (any_acting act w)) [] []
-  far-occurs (step (requests r)) w well = nothing_there (well, refl, refl) refl refl
   far-occurs act w well = grind arith
 
   pub then-well : (w w' : Wire) (t : List Seen) (es : List Event) → IsWell w.near → Occurs w w' t es → IsWell w'.near
@@ -57,25 +56,18 @@ module _ (service : Service) (tei : ℕ) where
 
   -- the configuration stays
   pub same-reading : (w w' : Wire) (t : List Seen) (es : List Event) → Occurs w w' t es → reads w' ≡ reads w
-  same-reading w w' t es (nothing_there same none nil) = ap (λ (c : Config). c.reading) same.2
-  same-reading w w' t es (one_there e it shown one) = ap (λ (s : Endpoint). s.card.config.reading) it
+  same-reading w w' t es h = grind arith
 
   -- that the other side asks for nothing, of one event and of those behind it
   no-call : (r : Reading) (a b : Bool) → NoCall r (a || b) → NoCall r a × NoCall r b
-  no-call Profile a b none = (tt, tt)
-  no-call AnnexB a b none = or_parts a b none
+  no-call h a b none = grind arith
 
   abbrev Uncalled : Wire → List Event → Type 0
   Uncalled w es = NoCall (reads w) (list_any (is_called service tei w.near) es)
 
   step-four : (w w' : Wire) (t : List Seen) (es : List Event) → IsWell w.near → (link_here service tei w.near).state ≡ TeiAssigned → BeginsNothing service tei t
       → Uncalled w es → Occurs w w' t es → ((link_here service tei w'.near).state ≡ TeiAssigned) × Is (reads w) t []
-  step-four w w' t es well is quiet uncalled (nothing_there same none nil) =
-      (ap (λ (y : Link). y.state) same.1 ∙ is, ((ap (news (reads w) service tei) none, ap (data_noted service tei) none)))
-  step-four w w' t es well is quiet uncalled (one_there e it shown one) =
-      let none = (no-call (reads w) (is_called service tei w.near e) false (subst (Uncalled w) one uncalled)).0 in
-      let x = endpoint-four service tei w.near well e (subst (BeginsNothing service tei) shown quiet) none is in
-      (ap (λ (s : Endpoint). (link_here service tei s).state) it ∙ x.0, ((ap (news (reads w) service tei) shown ∙ x.1.0, ap (data_noted service tei) shown ∙ x.1.1)))
+  step-four w w' t es well is quiet uncalled h = grind (arith, no-call, endpoint-four, link_here)
 
   -- where a release is confirmed, one of its events may confirm it
   abbrev pub MayConfirm : Wire → Wire → List Event → Type 0
@@ -115,17 +107,11 @@ module _ (service : Service) (tei : ℕ) where
   later (any_far act) hs w all =
       all-possible service tei w (turned (any_acting act (turned w))) (far-place act (turned w)) (near-place act (turned w)) hs (All-tail (IsOpen w) (any_far act) hs all)
 
-  called-at : (h : AnyStepAt) (w : Wire) → called_by service tei h w ≡ list_any (is_called service tei w.near) (events_at h w)
-  called-at (any_near act) w = refl
-  called-at (any_far act) w = refl
-
   -- at first, and behind that
   split-calls : (h : AnyStepAt) (hs : List AnyStepAt) (w : Wire) → reads (any_doing h w) ≡ reads w → IsNotCalled service tei (h ∷ hs) w
       → Uncalled w (events_at h w) × IsNotCalled service tei hs (any_doing h w)
   unfolding called
-  split-calls h hs w same none =
-      let both = no-call (reads w) (called_by service tei h w) (called service tei hs (any_doing h w)) none in
-      (subst (NoCall (reads w)) (called-at h w) both.0, subst (λ r. NoCall r (called service tei hs (any_doing h w))) (sym same) both.1)
+  split-calls h hs w same none = grind arith
 
   pub run-four : (hs : List AnyStepAt) (w : Wire) → IsWell w.near → (link_here service tei w.near).state ≡ TeiAssigned → All (IsOpen w) hs
       → BeginsNothing service tei (seen_near hs w) → IsNotCalled service tei hs w → Is (reads w) (seen_near hs w) []

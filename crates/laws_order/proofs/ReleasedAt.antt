@@ -1,9 +1,9 @@
 -- What one event at an end tells of its link in state 6, and in state 4.
 use Rattle.laws_order.proofs.Vocabulary.{◌≡◌, ℕ, Bool, true, false, cond, List, [], ◌∷◌, get_or, set, Option, Some, None, refl, sym, ap, ◌∙◌, subst, arith, append-nil, true≢false, ◌⊎◌, inl, inr, filter, option_to_list, list_any, get_or-set_same, Control, H, Note, Refusal, PoolFull, Service, TeiAssigned, AwaitingRelease, Terms, Link, state_number, Config, Answer, refused, Line, fresh_line, has_tei}
 use Rattle.laws_order.proofs.Vocabulary.{link_of, place_in, terms, line_at, has_lines, by_room, notes_of, contents_in, deactivates, IsBy, is-off, seen, is_ui, unless, no-data, on-line, own-is, leaving-due, none-filtered, others-silent, due, HasOne, HasNone, IsGivenUp, event-goes, off-fresh, Endpoint, answered, happens, fresh, at, line_of, data_noted, is_news, news, begins_by_note, begins_by}
-use Rattle.laws_order.proofs.Vocabulary.{Reading, Profile, AnnexB, NoCall, Parts, is_for, is_called, is_in_4, is_plain_dm, brings, sapi-is, eq-eqb, ◌&&◌, option_map, option_map_or}
+use Rattle.laws_order.proofs.Vocabulary.{Reading, NoCall, Parts, is_for, is_called, is_in_4, is_plain_dm, brings, sapi-is, eq-eqb, ◌&&◌, option_map_or}
 use Rattle.laws_order.proofs.Vocabulary.{BeginsNothing, link_frame, received, LinkEvent, cleared, after, told, NoteError, NoteReleaseConfirm, or-true, Event}
-use Rattle.model_line.specs.Line.{link_in, state_in, state_of}
+use Rattle.model_line.specs.Line.{state_of}
 use Rattle.model_line.specs.Machine as lines
 use Rattle.model_line.specs.Sound as line_sound
 use Rattle.model_card.proofs.Steps.{line_sound as sound_line}
@@ -167,12 +167,7 @@ module _ (service : Service) (tei : ℕ) where
       unconfirmed other by h = absurd h
 
       one-six : k.state ≡ AwaitingRelease → Six Cause r k' a
-      one-six is = go (in-6 Own k is x.event)
-        where
-          go : In6 Own (ConfirmsAt x.event) (told Own x.event k).notes (after Own x.event k).state → Six Cause r k' a
-          go (inl y) = inl (state-is ∙ y.0, by-notes _ [] x.notes y.1)
-          go (inr (to, inl y)) = inr (state-is ∙ to, inl (by-notes _ Confirm x.notes y.0, unconfirmed x.event x.by y.1))
-          go (inr (to, inr y)) = inr (state-is ∙ to, inr (by-notes _ GivenUp x.notes y))
+      one-six is = grind (arith, in-6, state-is, by-notes, unconfirmed)
 
       -- whatever calls it here is seen to
       rung : (ev : LinkEvent) → IsBy c e a service tei ev → rings Own ev ≡ true → brings is_plain_dm c service tei e ≡ true
@@ -184,16 +179,13 @@ module _ (service : Service) (tei : ℕ) where
       rung other by is = absurd (true≢false (sym is))
 
       in-four : k.state ≡ TeiAssigned → state_of service tei l ≡ Some 4
-      in-four is =
-          let same : k ≡ link_in l service x.place = ap (λ o. option_map_or (link_in l service) o fresh) x.placed in
-          ap (option_map (state_in l service)) x.placed ∙ ap (λ (y : Link). Some (state_number y.state)) (sym same) ∙ ap (λ state. Some (state_number state)) is
+      in-four is = grind arith
 
       both : (p q r : Bool) → p ≡ true → (r ≡ true → q ≡ true) → (p && q) ≡ false → r ≡ false
       both p q r x y none = grind arith
 
       unrung : (r : Reading) → k.state ≡ TeiAssigned → NoCall r Called → NoCall r (rings Own x.event)
-      unrung Profile is none = tt
-      unrung AnnexB is none = both (is_in_4 (state_of service tei l)) (brings is_plain_dm c service tei e) (rings Own x.event) (ap is_in_4 (in-four is)) (rung x.event x.by) none
+      unrung h is none = grind (arith, both, rings, in-four, rung)
 
       one-four : Quietly → NoCall r Called → k.state ≡ TeiAssigned → Four r k' a
       one-four quiet none is = go (in-4 Own k is x.event (grind (arith, own-is)) (unrung r is none))

@@ -98,12 +98,9 @@ module _ (c : Config) (lengths : Lengths) (late number : ℕ) (ranged : IsInRang
     still : is_own_t200 service tei what ≡ false → H events u.clock (D o.expiries) → Awaits (events ++ at number what ∷ []) (with_event (at number what) u)
     still other h =
         let by = stays-on c events number ranged s.all within service tei what w.on on-then in
-        let count : q.expiries ≡ o.expiries =
-        ap (λ (x : Observed). x.expiries) by
-        ∙ counts-same c service tei what (moment_of c events number what).answer o other (waits-at o w.state_is) (ap (λ (x : Observed). x.state) (sym by) ∙ same-state) in
+        let count : q.expiries ≡ o.expiries = grind (arith, counts-same, moment_of, answer, waits-at, same-state) in
         let none : is_anew c service tei T200 o q what ≡ false = not-anew c events number ranged s.all within service tei what u.clock (waits-at o w.state_is) same-state (omega (arith, count)) in
-        let never : (not (runs T200 o) || is_anew c service tei T200 o q what) ≡ false =
-        ap (λ b. not b || is_anew c service tei T200 o q what) (runs-at o w.state_is) ∙ none in
+        let never : (not (runs T200 o) || is_anew c service tei T200 o q what) ≡ false = grind (arith, not, is_anew, runs-at) in
         record {
           goes = g;
           on = there.0;
@@ -115,10 +112,7 @@ module _ (c : Config) (lengths : Lengths) (late number : ℕ) (ranged : IsInRang
 
   -- It falls due at m, and expires once more.
   again : (now m e : ℕ) → now ≤ m + late → e < c.n200 → D e m → D (e + 1) (now + lengths.t200)
-  again now m e late_is less d =
-      let one : c.n200 - e ≡ (c.n200 - (e + 1)) + 1 = omega (arith, less) in
-      let left = ap (λ k. k * (lengths.t200 + late)) one ∙ one-more (c.n200 - (e + 1)) (lengths.t200 + late) in
-      omega (arith, d, left, late_is)
+  again now m e late_is less d = grind arith
 
   module _ (events : List Event) (t u : TimedCard) (w : Awaits events t) (s : S events u) (same_now : u.clock.now ≡ t.clock.now)
       (g : G (events ++ at number (expiry (timers.T200 service tei)) ∷ []) (with_event (at number (expiry (timers.T200 service tei))) u))
@@ -156,8 +150,7 @@ module _ (c : Config) (lengths : Lengths) (late number : ℕ) (ranged : IsInRang
       → H events u.clock (D (o_at events).expiries) → Awaits (events ++ e ∷ []) (with_event e u)
   elsewhere-awaits events t u w s e other g there h =
       let m : Moment = record { card = runs_of.after_all (cards.fresh c) events; event = e; answer = answer e (runs_of.after_all (cards.fresh c) events) } in
-      let same : o_at (events ++ e ∷ []) ≡ o_at events =
-      ap (λ (v : View). v.link) (view-then c service tei number events e) ∙ elsewhere c service tei number (view_of c service tei number events) m other w.on in
+      let same : o_at (events ++ e ∷ []) ≡ o_at events = grind (arith, view-then, elsewhere, view_of) in
       record {
         goes = g;
         on = there.0;

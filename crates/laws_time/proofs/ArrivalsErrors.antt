@@ -1,7 +1,7 @@
 -- By which events N200 is used up, and how often T200 has expired.
 use Rattle.laws_time.proofs.Vocabulary.{Answer, Bool, Config, Control, Error, ErrorCode, List, Note, Observed, Service, T200, Timer, [], ap, append-nil, arith, brings, by_event, by_expiry, by_t200, cond, counted, due_notes, eq-eqb, eqb-true, error_in}
 use Rattle.laws_time.proofs.Vocabulary.{expiry, false, fault_of, flat_map, flat_map-append, given_up, is_sabme, is_used_up, is_waiting, is_xid, list_any, list_any-append, malformed, map, may_repeat, next, notes_due, option_to_list}
-use Rattle.laws_time.proofs.Vocabulary.{refl, releases, request, runs, sym, true, true≢false, wrong, wrong_frame, wrong_number, ℕ, ◌++◌, ◌+◌, ◌==◌, ◌∙◌, ◌∷◌, ◌≡◌, ◌⊎◌}
+use Rattle.laws_time.proofs.Vocabulary.{refl, request, runs, sym, true, true≢false, wrong, wrong_frame, wrong_number, ℕ, ◌++◌, ◌+◌, ◌==◌, ◌∙◌, ◌∷◌, ◌≡◌, ◌⊎◌}
 use Rattle.lapd_frame.specs.declared.faults.ReadFault.{ReadFault}
 use Rattle.model_bits.specs.Stream as stream
 use Rattle.model_line.specs.Event as line_event
@@ -38,22 +38,7 @@ due-none service tei xid sabme released was to = grind arith
 
 used-is : (c : Config) (service : Service) (tei : ℕ) (o q : Observed) (what : line_event.Event) (a : Answer) → Used (notes_due c service tei o q what a) ≡ true
     → list_any is_used_up (wrong c service tei what o.state q.state) ≡ true
-used-is c service tei o q what a is = go (o.state == 1) refl
-  where
-    cs : List ErrorCode
-    cs = wrong c service tei what o.state q.state
-
-    rest : List Note
-    rest = due_notes service tei (brings is_xid c service tei what) (brings is_sabme c service tei what) (releases service tei what a) o q.state
-
-    all : flat_map error_in (map (Error service tei) cs ++ rest) ≡ cs
-    all = flat_map-append error_in (map (Error service tei) cs) rest
-        ∙ ap (λ xs. xs ++ flat_map error_in rest) (map-codes service tei cs)
-        ∙ ap (λ xs. cs ++ xs) (due-none service tei (brings is_xid c service tei what) (brings is_sabme c service tei what) (releases service tei what a) o q.state) ∙ append-nil cs
-
-    go : (b : Bool) → (o.state == 1) ≡ b → list_any is_used_up (wrong c service tei what o.state q.state) ≡ true
-    go true e = absurd (true≢false (sym is ∙ ap (λ b. Used (cond b [] (map (Error service tei) cs ++ rest))) e))
-    go false e = ap (list_any is_used_up) (sym all) ∙ sym (ap (λ b. Used (cond b [] (map (Error service tei) cs ++ rest))) e) ∙ is
+used-is c service tei o q what a is = grind (arith, wrong, due_notes, brings, is_xid, is_sabme, map, flat_map-append, map-codes, due-none, append-nil, true≢false, cond)
 
 fault-none : (service : Service) (tei : ℕ) (fault : ReadFault) → list_any is_used_up (option_to_list (fault_of service tei fault)) ≡ false
 fault-none service tei fault = grind arith

@@ -1,6 +1,6 @@
 -- One event of a line: how soon T200 falls due then, and that N200 is not used up by it.
 use Rattle.laws_time.proofs.Vocabulary.{Bool, Clock, Config, Event, Expiry, IsInRange, IsNoExpiry, Lengths, List, None, Observed, Service, Some, T200, TimedCard, Timer, [], ap, arith, at, brings, by_event, cond, counted, eq-eqb, eqb-true, expiry, false, filter, first_due, in_state, inl, inr, is_anew, is_news, is_of, is_on, is_waiting, leb-true, ltb-false, moment_at, moment_of, mul-le, nat_le}
-use Rattle.laws_time.proofs.Vocabulary.{nat_lt, news-is-told-so, news_in, not, notes_due, notes_of, of_frames, or_parts, refl, renews, same_Some, subst, suc, sym, true, true≢false, view_behind, view_of, zero, ℕ, ◌&&◌, ◌*◌, ◌++◌, ◌+◌, ◌<◌, ◌==◌, ◌||◌, ◌∙◌, ◌∷◌, ◌≡◌, ◌≤◌, ◌⊎◌}
+use Rattle.laws_time.proofs.Vocabulary.{nat_lt, news-is-told-so, news_in, not, notes_due, notes_of, of_frames, or_parts, refl, renews, same_Some, subst, suc, sym, true, true≢false, view_behind, view_of, zero, ℕ, ◌*◌, ◌++◌, ◌+◌, ◌<◌, ◌==◌, ◌||◌, ◌∙◌, ◌∷◌, ◌≡◌, ◌≤◌, ◌⊎◌}
 use Rattle.model_line.specs.Event as line_event
 use Rattle.model_card.specs.Machine.{answer}
 use Rattle.laws_time.proofs.TimedFrames.{with_event}
@@ -138,10 +138,7 @@ module _ (c : Config) (lengths : Lengths) (late number : ℕ) (ranged : IsInRang
         (λ begun run. subst (λ x. P x (u.clock.now + lengths.t200)) (sym is-q) (bound, λ at_7. from-now u.clock.now since))
 
     same-there : is_anew c service tei T200 o q what ≡ false → (o.state ≡ q.state) × (q.expiries ≤ o.expiries)
-    same-there none =
-        let parts = or_parts (not (o.state == q.state) || nat_lt o.expiries q.expiries) (o.state == 7 && brings (renews T200 o.acknowledged o.busy) c service tei what) none in
-        let both = or_parts (not (o.state == q.state)) (nat_lt o.expiries q.expiries) parts.0 in
-        (eqb-true o.state q.state (un-not (o.state == q.state) both.0), ltb-false o.expiries q.expiries both.1)
+    same-there none = grind (arith, or_parts, not, nat_lt, brings, renews, eqb-true, un-not, ltb-false)
 
     -- or lets it run on
     on-due : is_anew c service tei T200 o q what ≡ false → t0 ≤ u.clock.now → H events u.clock (P o) → H (events ++ at number what ∷ []) (with_event (at number what) u).clock (P (o_at (events ++ at number what ∷ [])))

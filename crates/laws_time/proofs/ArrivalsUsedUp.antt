@@ -56,10 +56,7 @@ module _ (c : Config) (lengths : Lengths) (late number : ℕ) (ranged : IsInRang
 
     -- as often as it has run out
     in-time-so : runs T200 o_was ≡ true → P o_was m0
-    in-time-so run = let d = w.due_by run in subst (P o_was) (one d.0 m0 (sym d.1 ∙ at_m)) d.3
-      where
-        one : (a b : ℕ) → Some a ≡ Some b → a ≡ b
-        one a b e = cc e
+    in-time-so run = grind arith
 
     bound : is_waiting o_was.state ≡ true → t0 + (o_was.expiries + 1) * lengths.t200 ≤ m0 + slack * lengths.t200
     bound waits = (in-time-so (awaits-in o_was waits)).0 waits
@@ -222,14 +219,7 @@ module _ (c : Config) (lengths : Lengths) (late number : ℕ) (ranged : IsInRang
 
   -- Time goes on.
   later-on : (t : TimedCard) (d : Step Event) → IsPrompt late d t → t.clock.now ≤ (after d t).clock.now
-  later-on t (happens e) prompt = let same = now-stays e.line t.clock (orders_in (answer e t.card)) in omega (arith, same)
-  later-on t (time moment) prompt = prompt.0
-  later-on t falls_due prompt = go (due t.clock)
-    where
-      go : (o : Option Expiry) → t.clock.now ≤ (option_map_or (timed_expiry t) o t).clock.now
-      go None = omega arith
-      go (Some x) =
-          let same = now-stays x.line (without_first t.clock) (orders_in (answer (expiry_of x) t.card)) in omega (arith, same)
+  later-on t h prompt = grind (arith, now-stays, orders_in, answer, due, option_map_or, timed_expiry, without_first, expiry_of)
 
   all-later : (t : TimedCard) (steps : List (Step Event)) → ArePrompt late steps t → t.clock.now ≤ (after_all steps t).clock.now
   unfolding timed_after_all TimedArePrompt

@@ -1,7 +1,7 @@
 -- Whatever happens to a timed card, each timer of a link that runs falls due, and is overdue by no more.
-use Rattle.laws_time.proofs.Vocabulary.{All, All-nil, AreAtLines, ArePrompt as TimedArePrompt, Bool, Clock, Config, Event, Expiry, IsAtLine, IsInRange, IsInTime, Lengths, LinkTimer, List, Managed, Moment, None, Observed, Option, Service, Some, Step, T200, T203, TimedCard, View, [], after_all as timed_after_all, and_parts, ap, append-nil, append_assoc, arith, at, at_moment, awaits, by_t200, cond}
+use Rattle.laws_time.proofs.Vocabulary.{All, AreAtLines, ArePrompt as TimedArePrompt, Bool, Clock, Config, Event, Expiry, IsInRange, IsInTime, Lengths, LinkTimer, List, Managed, Moment, None, Observed, Option, Service, Some, Step, T200, T203, TimedCard, View, [], after_all as timed_after_all, and_parts, ap, append-nil, append_assoc, arith, at, at_moment, awaits, by_t200, cond}
 use Rattle.laws_time.proofs.Vocabulary.{drop, due, duration, enquires, eqb-true, event_of, events_of, expiry, falls_due, false, frames_after_all as card_after_all, in_state, is_anew, is_of, is_on, is_same, is_terminal, moments, not, nothing_due, option_map, option_map_or, option_to_list, orders_in, own-is, refl, runs, step_happens as happens, subst, sym, time, timed_events_of, timer_of, true}
-use Rattle.laws_time.proofs.Vocabulary.{true≢false, view_behind, view_of, views, without_first, ℕ, ◌&&◌, ◌++◌, ◌+◌, ◌<◌, ◌==◌, ◌||◌, ◌∙◌, ◌∷◌, ◌≡◌, ◌≤◌}
+use Rattle.laws_time.proofs.Vocabulary.{true≢false, view_behind, view_of, views, without_first, ℕ, ◌&&◌, ◌++◌, ◌+◌, ◌<◌, ◌==◌, ◌∙◌, ◌∷◌, ◌≡◌, ◌≤◌}
 use Rattle.lapd_frame.specs.declared.timers.Timer.TheVariants as timers
 use Rattle.model_line.specs.Event as line_event
 use Rattle.model_card.specs.Card as cards
@@ -50,13 +50,7 @@ module _ (c : Config) (number : ℕ) (ranged : IsInRange c) (within : number < c
 
     -- It starts one anew.
     pub expired-anew : (timer : LinkTimer) → runs timer o ≡ true → is_anew c service tei timer o (behind timer) (expiry (timer_of service tei timer)) ≡ true
-    expired-anew T200 run =
-        ap (λ q. is_anew c service tei T200 o q (expiry (timers.T200 service tei))) (t200-leads (there c events number ranged all within service tei T200 run))
-        ∙ ap (λ b. b || (o.state == 7 && false)) (t200-enters o c run)
-    expired-anew T203 run =
-        ap (λ q. is_anew c service tei T203 o q (expiry (timers.T203 service tei)))
-        (t203-leads (there c events number ranged all within service tei T203 run) ∙ ap (λ b. cond b (enquires 0 o) o) run)
-        ∙ ap (λ b. b || (o.state == 7 && false)) (enquired o 0 (eqb-true o.state 7 ((and_parts (o.state == 7) (not (awaits o)) run).0)))
+    expired-anew h run = grind (arith, is_anew, t200-leads, there, t200-enters, t203-leads, cond, enquires, enquired, eqb-true, and_parts, not, awaits)
 
 module _ (c : Config) (lengths : Lengths) (late number : ℕ) (ranged : IsInRange c) (within : number < c.lines) (service : Service) (tei : ℕ) where
   abbrev Fresh : LinkTimer → Clock → ℕ → Type 0
@@ -177,8 +171,4 @@ module _ (c : Config) (lengths : Lengths) (late number : ℕ) (ranged : IsInRang
 
   pub begins : Goes [] (fresh c lengths)
   unfolding moments card_after_all
-  begins = record {
-    stands = record { card = refl; all = All-nil (IsAtLine (cards.fresh c)); lengths_are = refl };
-    lines = All-nil (λ (e : Expiry). e.line < c.lines);
-    timers_are = λ timer run. absurd (true≢false (sym run ∙ none-runs timer));
-  }
+  begins = grind arith

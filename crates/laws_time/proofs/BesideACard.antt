@@ -98,9 +98,7 @@ module _ (lines places : ℕ) where
         ((its.0, subst (AllFind k places steps) (sym its.1) more.0), ap (after_all k steps) its.1 ∙ more.1)
 
     pub keeps-up : (steps : List (Step Event)) (t : Timed Card) → Good t → ArePrompt k late steps t → KeepsUp k places steps (beside t) t
-    keeps-up steps t good prompt =
-        let its = all steps t good prompt in
-        record { find = its.0; card = ap (λ (b : Beside Card). b.card) its.1; clock = ap (λ (b : Beside Card). clock_of b.clock b.now) its.1 }
+    keeps-up h t good prompt = grind (arith, all, clock_of)
 
 -- What holds of a card of frames, alone or inside one of octets, and of its clock.
 record Good (c : Config) (card : Card) (clock : Clock) : Type 0 where

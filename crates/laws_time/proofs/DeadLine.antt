@@ -60,14 +60,12 @@ module _ (c : Config) (lengths : Lengths) (late number : ℕ) (ranged : IsInRang
       → H T200 events u.clock (DueAt200 events) → H T203 events u.clock DueAt203 → W (events ++ e ∷ []) (with_event e u) (told ++ news_in of_frames service tei number (Some e) u.card)
   other-waits events t u told w s e other g on h200 h203 =
       let m : Moment = record { card = runs_of.after_all (cards.fresh c) events; event = e; answer = answer e (runs_of.after_all (cards.fresh c) events) } in
-      let same : o_at (events ++ e ∷ []) ≡ o_at events =
-      ap (λ (v : View). v.link) (view-then c service tei number events e) ∙ elsewhere c service tei number (view_of c service tei number events) m other w.on in
+      let same : o_at (events ++ e ∷ []) ≡ o_at events = grind (arith, view-then, elsewhere, view_of) in
       record {
         goes = g;
         on = on;
         phase = subst IsPhase (sym same) w.phase;
-        told_is = ap (λ b. (told ++ cond b (filter (is_news service tei) (notes_of (answer e u.card))) []) ++ owed service tei (o_at (events ++ e ∷ [])).state) other
-            ∙ ap (λ ns. ns ++ owed service tei (o_at (events ++ e ∷ [])).state) (append-nil told) ∙ ap (λ (o : Observed). told ++ owed service tei o.state) same ∙ w.told_is;
+        told_is = grind (arith, cond, filter, is_news, notes_of, owed, state, append-nil);
         wait = λ up. w.wait (ap (λ (o : Observed). nat_le 7 o.state) (sym same) ∙ up);
         t200 = subst (λ (o : Observed). H T200 (events ++ e ∷ []) (with_event e u).clock (λ m. Due200 c lengths.t200 late first all o.state o.expiries m)) (sym same)
             (other-line c lengths late number ranged within service tei events u s (DueAt200 events) e T200 other h200);

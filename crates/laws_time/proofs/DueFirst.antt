@@ -1,6 +1,6 @@
 -- Which timer falls due first: the law.
-use Rattle.laws_time.proofs.Vocabulary.{All, All-from_recursion, AllByRecursion, Bool, Expiry, IfSome, IsInOrder, Kind, List, None, Option, Ordering, Some, Step, Timed, [], after_all, arith, before_itself, cond, drop, due, expiry_at, falls_due, false, first_due, in-order, is_before, is_lt, nat_cmp, nat_le, nat_lt, nat_tests, option_map_or, ordering_then}
-use Rattle.laws_time.proofs.Vocabulary.{step_happens as happens, stopped, sym, time, timer_cmp, true, with_expiry, without_first, ℕ, ◌&&◌, ◌==◌, ◌||◌, ◌∙◌, ◌∷◌, ◌≡◌}
+use Rattle.laws_time.proofs.Vocabulary.{All, All-from_recursion, AllByRecursion, Bool, Expiry, IfSome, IsInOrder, Kind, List, None, Option, Ordering, Some, Step, Timed, [], after_all, arith, before_itself, cond, drop, due, expiry_at, false, first_due, in-order, is_before, is_lt, nat_cmp, nat_le, nat_lt, nat_tests, option_map_or, ordering_then}
+use Rattle.laws_time.proofs.Vocabulary.{stopped, sym, timer_cmp, true, with_expiry, without_first, ℕ, ◌&&◌, ◌==◌, ◌||◌, ◌∙◌, ◌∷◌, ◌≡◌}
 use Rattle.lapd_clock.proofs.Vocabulary.{Timer}
 use Rattle.model_timed.specs.Timed.{after}
 use Rattle.laws_time.specs.DueFirst.{TheFirstFallsDue, by_timer, in_turn, is_lower}
@@ -21,18 +21,14 @@ all-in-turn x (y ∷ ys) h = (sym (in-turn-lower y x) ∙ h.0, all-in-turn x ys 
 
 -- Those that run are always in order.
 without : (es : List Expiry) → IsInOrder is_before es → IsInOrder is_before (drop 1 es)
-without [] h = tt
-without (e ∷ es) h = h.1
+without h h' = grind arith
 
 module _ {Card Event : Type 0} (k : Kind Card Event) where
   fallen : (t : Timed Card) (d : Option Expiry) → IsInOrder is_before t.clock.running → IsInOrder is_before (option_map_or (with_expiry k t) d t).clock.running
-  fallen t None h = h
-  fallen t (Some x) h = in-order (k.line (expiry_at k x)) (without_first t.clock) (k.orders (expiry_at k x) t.card) (without t.clock.running h)
+  fallen t h h' = grind (arith, in-order, expiry_at, without_first, without)
 
   one-step : (t : Timed Card) (s : Step Event) → IsInOrder is_before t.clock.running → IsInOrder is_before (after k s t).clock.running
-  one-step t (happens e) h = in-order (k.line e) t.clock (k.orders e t.card) h
-  one-step t (time moment) h = h
-  one-step t falls_due h = fallen t (due t.clock) h
+  one-step t h h' = grind (arith, in-order, fallen, due)
 
   pub all-steps : (steps : List (Step Event)) (t : Timed Card) → IsInOrder is_before t.clock.running → IsInOrder is_before (after_all k steps t).clock.running
   unfolding after_all

@@ -1,8 +1,8 @@
 -- What an event at the line makes of a link of which nothing is heard, and what is told.
 use Rattle.laws_time.proofs.Vocabulary.{Answer, Bool, Config, LinkTimer, List, Observed, Option, Parts, Request, Service, [], anew, arith, awaits, brings, by_event, by_frame, by_frame_begun, by_heard, cond, due_notes as due, eq-eqb, expiry, false, fold, frame_in, is_anew, is_heard, is_sabme, is_stirred, is_timer_of, is_too_long, is_xid, le-ltb, moves_link, nat_le, next}
-use Rattle.laws_time.proofs.Vocabulary.{not, notes_due, option_map_or, refl, releases, request, subst, sym, wrong, ℕ, ◌&&◌, ◌||◌, ◌∙◌, ◌∷◌, ◌≡◌, ◌≤◌}
+use Rattle.laws_time.proofs.Vocabulary.{not, notes_due, option_map_or, refl, releases, wrong, ℕ, ◌&&◌, ◌||◌, ◌∙◌, ◌∷◌, ◌≡◌, ◌≤◌}
 use Rattle.model_bits.specs.Stream as stream
-use Rattle.model_line.specs.Event.{Event, hears}
+use Rattle.model_line.specs.Event.{Event}
 use Rattle.laws_trace.specs.Observer.{by_request}
 use Rattle.laws_trace.specs.Units.{is_ui}
 
@@ -42,10 +42,7 @@ module _ (c : Config) (service : Service) (tei : ℕ) (a : Answer) (o : Observed
   asked-like r quiet = grind (arith, like-self)
 
   pub calm : (what : Event) → is_stirred c service tei what ≡ false → is_its_expiry service tei what ≡ false → IsLike o (by_event c service tei what a o)
-  calm (hears e) quiet mine = subst (IsLike o) (sym (heard-stays e quiet)) (like-self o)
-  calm (request r) quiet mine = grind (arith, asked-like, like-self)
-  calm (expiry timer) quiet mine = grind (arith, like-self)
-  calm next quiet mine = sent-like c service tei o (frame_in a)
+  calm h quiet mine = grind (arith, heard-stays, like-self, asked-like, sent-like, frame_in)
 
   pub same-awaits : (what : Event) → is_stirred c service tei what ≡ false → is_its_expiry service tei what ≡ false → (what ≡ next → ⊥) → awaits (by_event c service tei what a o) ≡ awaits o
   same-awaits what h1z h2z h3z = grind (arith, heard-stays)

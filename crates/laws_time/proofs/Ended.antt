@@ -34,14 +34,7 @@ module _ (c : Config) (lengths : Lengths) (late now : ℕ) where
   start-6 e m h = omega (arith, h, whole-left e)
 
   pub start-200 : (from : ℕ) → 5 ≤ from → from ≤ 8 → Start from
-  start-200 from low high = go (four from (omega (arith, low)) high)
-    where
-      go : (from ≡ 4) ⊎ ((from ≡ 5) ⊎ ((from ≡ 6) ⊎ ((from ≡ 7) ⊎ (from ≡ 8)))) → Start from
-      go (inl is) = absurd (omega (arith, low, is))
-      go (inr (inl is)) = subst Start (sym is) start-5
-      go (inr (inr (inl is))) = subst Start (sym is) start-6
-      go (inr (inr (inr (inl is)))) = subst Start (sym is) start-7
-      go (inr (inr (inr (inr is)))) = subst Start (sym is) start-8
+  start-200 from low high = grind (arith, four, start-5, start-6, start-7, start-8)
 
   pub start-203 : (m : ℕ) → m ≤ now + lengths.t203 → Due203 c lengths.t200 late (F 7) (A 7) m
   start-203 m h = omega (arith, h)
@@ -50,20 +43,7 @@ module _ (c : Config) (lengths : Lengths) (late now : ℕ) where
   Up from = nat_le 7 from ≡ true → F from + whole c lengths.t200 late (F from) (A from) ≤ A from
 
   pub start-wait : (from : ℕ) → 5 ≤ from → from ≤ 8 → Up from
-  start-wait from low high = go (four from (omega (arith, low)) high)
-    where
-      up-7 : Up 7
-      up-7 up = omega arith
-
-      up-8 : Up 8
-      up-8 up = omega arith
-
-      go : (from ≡ 4) ⊎ ((from ≡ 5) ⊎ ((from ≡ 6) ⊎ ((from ≡ 7) ⊎ (from ≡ 8)))) → Up from
-      go (inl is) = absurd (omega (arith, low, is))
-      go (inr (inl is)) = subst Up (sym is) (λ up. cc up)
-      go (inr (inr (inl is))) = subst Up (sym is) (λ up. cc up)
-      go (inr (inr (inr (inl is)))) = subst Up (sym is) up-7
-      go (inr (inr (inr (inr is)))) = subst Up (sym is) up-8
+  start-wait from low high = grind arith
 
   -- The end: a state, what was told, and a moment that T200 or T203 is not overdue.
   module _ (service : Service) (tei : ℕ) (from : ℕ) (low : 5 ≤ from) (high : from ≤ 8) (to then_is : ℕ) (told : List Note) (told_is : told ++ owed service tei to ≡ told_in from service tei)

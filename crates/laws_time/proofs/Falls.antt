@@ -1,5 +1,5 @@
 -- Time goes on, other lines have events, and timers fall due.
-use Rattle.laws_time.proofs.Vocabulary.{All, All-cons, All-head, All-nil, All-tail, Bool, Clock, Expiry, IsInTime, List, None, Option, Order, Some, Start, Stop, Timer, [], ap, arith, cond, drop, false, filter, first_due, is_before, is_of, moment_of, nat_le, not, obey, obeyed, put_in_order, refl, subst, sym, true, without, ℕ, ◌+◌, ◌<◌, ◌∙◌, ◌∷◌, ◌≡◌, ◌≤◌}
+use Rattle.laws_time.proofs.Vocabulary.{All, All-cons, All-head, All-nil, All-tail, Bool, Clock, Expiry, IsInTime, List, None, Option, Order, Some, Start, Stop, Timer, [], ap, arith, cond, drop, false, filter, first_due, is_before, is_of, moment_of, nat_le, not, obey, obeyed, put_in_order, refl, subst, sym, without, ℕ, ◌+◌, ◌<◌, ◌∙◌, ◌∷◌, ◌≡◌, ◌≤◌}
 use Rattle.model_timed.specs.Clock as clocks
 
 in-time-first : (late now : ℕ) (e : Expiry) (rest : Option ℕ) (m : ℕ) (b : Bool) → now ≤ e.moment + late → ((is : rest ≡ Some m) → now ≤ m + late) → cond b (Some e.moment) rest ≡ Some m → now ≤ m + late
@@ -22,16 +22,14 @@ dropped line its x (e ∷ es) now is other =
 -- All timers that run are on lines of the card.
 module _ (P : Expiry → Type 0) where
   put-by : (e x : Expiry) (xs more : List Expiry) (b : Bool) → P e → All P (x ∷ xs) → All P more → All P (cond b (x ∷ more) (e ∷ x ∷ xs))
-  put-by e x xs more true this all behind = All-cons P x more (All-head P x xs all) behind
-  put-by e x xs more false this all behind = All-cons P e (x ∷ xs) this all
+  put-by e x xs more h this all behind = grind arith
 
   put : (e : Expiry) (es : List Expiry) → P e → All P es → All P (put_in_order is_before e es)
   put e [] this all = All-cons P e [] this (All-nil P)
   put e (x ∷ xs) this all = put-by e x xs (put_in_order is_before e xs) (is_before x e) this all (put e xs this (All-tail P x xs all))
 
   keep-by : (x : Expiry) (xs : List Expiry) (b : Bool) → P x → All P xs → All P (cond b (x ∷ xs) xs)
-  keep-by x xs true this all = All-cons P x xs this all
-  keep-by x xs false this all = all
+  keep-by x xs h this all = grind arith
 
   kept : (f : Expiry → Bool) (es : List Expiry) → All P es → All P (filter f es)
   kept f [] all = all

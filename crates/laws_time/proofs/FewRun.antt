@@ -1,6 +1,6 @@
 -- At most one timer of each link of a line runs, and T201 or T202.
 use Rattle.laws_time.proofs.Vocabulary.{AllByRecursion, Bool, Config, Expiry, IsDistinct, IsOfSide, IsOneEach, IsSound, LinkTimer, List, None, Option, Service, Some, T201, T202, [], ap, arith, cond, count_cons, count_on, eq-eqb, eqb, eqb-true, false, get_or, is_held, is_of, is_running, is_same, is_some, is_terminal, itself, length, link_in, link_number, link_runs as runs, list_any}
-use Rattle.laws_time.proofs.Vocabulary.{option_map_or, place_at, place_in, place_of-is, refl, runs_at, same_Some, service_at, subst, sym, true, true≢false, ℕ, ◌&&◌, ◌*◌, ◌+◌, ◌<◌, ◌==◌, ◌||◌, ◌∙◌, ◌∷◌, ◌≡◌, ◌≤◌}
+use Rattle.laws_time.proofs.Vocabulary.{option_map_or, place_at, place_in, place_of-is, refl, runs_at, same_Some, service_at, sym, true, true≢false, ℕ, ◌&&◌, ◌*◌, ◌+◌, ◌<◌, ◌==◌, ◌||◌, ◌∙◌, ◌∷◌, ◌≡◌, ◌≤◌}
 use Rattle.std.proofs.lemmas.Map.Keys.{IsDistinct-cons}
 use Rattle.std.proofs.lemmas.Map.Steps.{length-le_from_distinct_below}
 use Rattle.lapd_clock.specs.Timer.{Timer, T200, T203}
@@ -40,8 +40,7 @@ module _ (c : Config) (l : Line) (s : IsSound c l) where
       let places : x ≡ y = sym (place_at-number x service) ∙ ap place_at same ∙ place_at-number y r in
       let services : service ≡ r = sym (service_at-number x service) ∙ ap service_at same ∙ service_at-number y r in
       let teis : tei ≡ u = same_Some tei u (sym (place_of-is l.management.places tei x a).1 ∙ ap (λ p. get_or l.management.places p None) places ∙ (place_of-is l.management.places u y b).1) in
-      let run : runs m (link_in l service x).running ≡ true =
-      subst (λ p. runs m (link_in l service p).running ≡ true) (sym places) (subst (λ q. runs m (link_in l q y).running ≡ true) (sym services) run_b) in
+      let run : runs m (link_in l service x).running ≡ true = grind (arith, runs, link_in) in
       ap (λ n. timer_of n service tei) (one-kind k m (link_in l service x).running run_a run) ∙ ap (λ q. timer_of m q tei) services ∙ ap (timer_of m r) teis
 
   -- no line runs both T201 and T202

@@ -1,5 +1,5 @@
 -- When a timer of a link falls due behind orders.
-use Rattle.laws_time.proofs.Vocabulary.{Event, Bool, Clock, List, None, Option, Order, Ordering, Service, Some, Start, Stop, Timers, [], ap, arith, both-true, cond, count_on, duration, eq-eqb, eqb-true, expiry_of, false, false≢true, filter, finds_place, fold, is_eq, is_order_of, is_own, is_same, is_timer_of, moment_of, obey, obeyed, own-is, refl, same_service, same_timer, services-equal}
+use Rattle.laws_time.proofs.Vocabulary.{Event, Bool, Clock, List, None, Option, Order, Ordering, Service, Some, Start, Stop, Timers, [], ap, arith, both-true, cond, count_on, duration, eq-eqb, eqb-true, expiry_of, false, filter, finds_place, fold, is_eq, is_order_of, is_own, is_same, is_timer_of, moment_of, obey, obeyed, own-is, refl, same_service, same_timer, services-equal}
 use Rattle.laws_time.proofs.Vocabulary.{subst, at}
 use Rattle.laws_time.proofs.Vocabulary.{sym, timer_cmp, timer_total, true, with_order, without, ℕ, ◌&&◌, ◌+◌, ◌==◌, ◌∙◌, ◌∷◌, ◌≡◌, ◌⊎◌}
 use Rattle.lapd_clock.specs.Timer.{Timer, T200, T203}
@@ -114,16 +114,10 @@ pub own-same : (service : Service) (tei : ℕ) (of : Service) (by : ℕ) → is_
 own-same service tei of by own = let both = both-true (same_service of service) (by == tei) own in (services-equal of service both.0, eqb-true by tei both.1)
 
 pub own-timer : (service : Service) (tei : ℕ) (P : Timer → Type 0) → P (T200 service tei) → P (T203 service tei) → (timer : Timer) → is_timer_of service tei timer ≡ true → P timer
-own-timer service tei P first second (timers.T200 of by) own = let e = own-same service tei of by own in subst P (λ i. T200 (sym e.0 i) (sym e.1 i)) first
-own-timer service tei P first second (timers.T203 of by) own = let e = own-same service tei of by own in subst P (λ i. T203 (sym e.0 i) (sym e.1 i)) second
-own-timer service tei P first second other own = absurd (false≢true own)
+own-timer service tei h first second other own = grind arith
 
 pub each-timer : (service : Service) (tei : ℕ) (P : Timer → Type 0) → ((timer : Timer) → is_timer_of service tei timer ≡ false → P timer) → P (T200 service tei) → P (T203 service tei) → (timer : Timer) → P timer
-each-timer service tei P other first second timer = go (is_timer_of service tei timer) refl
-  where
-    go : (b : Bool) → is_timer_of service tei timer ≡ b → P timer
-    go false none = other timer none
-    go true own = own-timer service tei P first second timer own
+each-timer service tei h other first second timer = grind arith
 
 abbrev pub is_own_t200 : Service → ℕ → line_event.Event → Bool
 is_own_t200 service tei (line_event.expiry (timers.T200 of by)) = is_own service tei of by
@@ -148,8 +142,4 @@ of-link service tei its then (o ∷ orders) m of =
 
 -- What holds of events of a line and of the others holds of any.
 pub at-lines : (number : ℕ) (P : Event → Type 0) (e : Event) → ((e.line == number) ≡ false → P e) → ((e.line == number) ≡ true → P (at number e.what)) → P e
-at-lines number P e apart here = go (e.line == number) refl
-  where
-    go : (b : Bool) → (e.line == number) ≡ b → P e
-    go false other = apart other
-    go true own = subst (λ n. P (at n e.what)) (sym (eqb-true e.line number own)) (here own)
+at-lines number h e apart here = grind arith

@@ -1,5 +1,5 @@
 -- The moments of the timers of a link behind an event of its line.
-use Rattle.laws_time.proofs.Vocabulary.{AreAtLines, Bool, Clock, Config, IsInRange, LinkTimer, List, None, Observed, Option, Service, Some, T200, T203, Timer, [], ap, cond, duration, false, fold-append, inl, inr, is_anew, is_same, moment_of, not, obeyed, order_due, orders_due, orders_in, refl, runs, timer_of, true, view_behind, view_of, ℕ, ◌&&◌, ◌++◌, ◌+◌, ◌<◌, ◌||◌, ◌∙◌, ◌∷◌, ◌≡◌}
+use Rattle.laws_time.proofs.Vocabulary.{AreAtLines, Bool, Clock, Config, IsInRange, LinkTimer, List, None, Observed, Option, Service, Some, T200, T203, Timer, [], ap, cond, duration, false, fold-append, is_anew, is_same, moment_of, not, obeyed, order_due, orders_due, orders_in, refl, runs, timer_of, view_behind, view_of, ℕ, ◌&&◌, ◌++◌, ◌+◌, ◌<◌, ◌||◌, ◌∙◌, ◌∷◌, ◌≡◌, arith}
 use Rattle.lapd_frame.specs.declared.timers.Order.{Order}
 use Rattle.lapd_frame.specs.declared.timers.Order.TheVariants.{Start, Stop}
 use Rattle.lapd_frame.specs.declared.timers.Timer.TheVariants as timers
@@ -18,15 +18,11 @@ left c service tei timer o q what then_due m = cond (starts c service tei timer 
 
 module _ (service : Service) (tei : ℕ) (then_due : ℕ) where
   half : (its : Timer) (a b : Bool) (m : Option ℕ) → by_orders its then_due (cond a (Start its ∷ []) (cond b (Stop its ∷ []) [])) m ≡ cond a (Some then_due) (cond b None m)
-  half its true b m = ap (λ s. cond s (Some then_due) m) (itself its)
-  half its false true m = ap (λ s. cond s None m) (itself its)
-  half its false false m = refl
+  half its h b m = grind (arith, cond, itself)
 
   apart : (timer other : LinkTimer) (a b : Bool) (m : Option ℕ) → is_same (timer_of service tei other) (timer_of service tei timer) ≡ false
       → let its = timer_of service tei other in by_orders (timer_of service tei timer) then_due (cond a (Start its ∷ []) (cond b (Stop its ∷ []) [])) m ≡ m
-  apart timer other true b m differs = ap (λ s. cond s (Some then_due) m) differs
-  apart timer other false true m differs = ap (λ s. cond s None m) differs
-  apart timer other false false m differs = refl
+  apart timer other h b m differs = grind arith
 
   both : (its : Timer) (xs ys : List Order) (m : Option ℕ) → by_orders its then_due (xs ++ ys) m ≡ by_orders its then_due ys (by_orders its then_due xs m)
   both its xs ys m = fold-append (by_order its then_due) m xs ys
@@ -43,8 +39,7 @@ module _ (service : Service) (tei : ℕ) (then_due : ℕ) where
       ∙ ap (left c service tei T203 o q what then_due) (apart T203 T200 (starts c service tei T200 o q what) (runs T200 o && not (runs T200 q)) m refl)
 
 pub is-of : (service : Service) (tei : ℕ) (timer : LinkTimer) → IsOf service tei (timer_of service tei timer)
-is-of service tei T200 = inl refl
-is-of service tei T203 = inr refl
+is-of service tei h = grind arith
 
 -- After a run, and an event.
 module _ (c : Config) (events : List card.Event) (number : ℕ) (ranged : IsInRange c) (all_at : AreAtLines (fresh c) events) (within : number < c.lines) (service : Service) (tei : ℕ) (what : Event) (b : Clock) (timer : LinkTimer) where

@@ -52,9 +52,7 @@ module _ (c : Config) (lengths : Lengths) (late number : ℕ) (ranged : IsInRang
   Stand events t = Stands c lengths late number ranged within service tei events t
 
   like-due : (o q : Observed) → IsLike o q → (m : ℕ) → D200 o m → D200 q m
-  like-due o q like m h =
-      subst (λ s. Due200 c lengths.t200 late first all s q.expiries m) (sym like.state)
-      (subst (λ e. Due200 c lengths.t200 late first all o.state e m) (sym like.expiries) h)
+  like-due o q like m h = grind arith
 
   -- An event of the line that moves nothing.
   module _ (events : List Event) (t : TimedCard) (s : Stand events t) (what : line_event.Event) where
@@ -199,9 +197,7 @@ module _ (c : Config) (lengths : Lengths) (late number : ℕ) (ranged : IsInRang
         goes = g;
         on = on-after whole_told events t u told w s what on g;
         phase = subst IsPhase (sym now_is) phase;
-        told_is = append_assoc told (news_in of_frames service tei number (Some (at number what)) u.card) (owed service tei (o_of more).state)
-            ∙ ap (λ ns. told ++ ns) (ap (λ xs. xs ++ owed service tei (o_of more).state) news-are
-            ∙ ap (λ (o : Observed). notes_due c service tei o_was x what a ++ owed service tei o.state) now_is ∙ sym owes) ∙ w.told_is;
+        told_is = grind (arith, append_assoc, news_in, of_frames, at, owed, news-are, notes_due, now_is);
         wait = λ above. w.wait (up (ap (λ (o : Observed). nat_le 7 o.state) (sym now_is) ∙ above));
         t200 = step c lengths late number ranged within service tei events u s what T200 (λ m. ⊥) (D200 (o_of more))
             (λ run same. absurd (true≢false (sym (anew run) ∙ same)))

@@ -1,5 +1,5 @@
 -- A card that keeps its own timers is a card at which the same happens.
-use Rattle.laws_time.proofs.Vocabulary.{ArePrompt, Expiry, IsNoExpiry, IsNoOctetsExpiry, Kind, List, None, Option, Some, Step, Timed, [], after_all, due, falls_due, false, fold, frames, octets, option_map, option_map_or, option_to_list, refl, step_happens as happens, time, true≢false, with_expiry, ◌++◌, ◌∷◌, ◌≡◌}
+use Rattle.laws_time.proofs.Vocabulary.{ArePrompt, Expiry, IsNoExpiry, IsNoOctetsExpiry, Kind, List, Option, Step, Timed, [], after_all, due, falls_due, false, fold, frames, octets, option_map, option_map_or, option_to_list, refl, step_happens as happens, time, with_expiry, ◌++◌, ◌∷◌, ◌≡◌, arith}
 use Rattle.model_line.specs.Event as line
 use Rattle.model_card.specs.ports.Port as port
 use Rattle.model_timed.specs.Timed.{after}
@@ -13,8 +13,7 @@ module _ {Card Event : Type 0} (k : Kind Card Event) where
   fallen : (steps : List (Step Event)) (t : Timed Card) → ((u : Timed Card) → IsWhere steps u) → (d : Option Expiry)
       → let u = option_map_or (with_expiry k t) d t in (after_all k steps u).card
       ≡ fold (led_by k.after) t.card (option_to_list (option_map (λ (x : Expiry). k.expiry x.line x.timer) d) ++ happened k k.expiry steps u)
-  fallen steps t all None = all t
-  fallen steps t all (Some x) = all (with_expiry k t x)
+  fallen h t all h' = grind arith
 
   a-card : IsACard k k.after k.expiry
   unfolding after_all happened
@@ -32,16 +31,10 @@ module _ {Card Event : Type 0} (k : Kind Card Event) where
   all-served May may late (falls_due ∷ steps) t go = (tt, all-served May may late steps (after k falls_due t) go)
 
 not-expired : (what : line.Event) → is_expiry what ≡ false → IsNoExpiry what
-not-expired (line.hears e) is = tt
-not-expired (line.expiry timer) is = absurd (true≢false is)
-not-expired (line.request r) is = tt
-not-expired line.next is = tt
+not-expired h is = grind arith
 
 no-octets-expiry : (what : port.Event) → is_octets_expiry what ≡ false → IsNoOctetsExpiry what
-no-octets-expiry (port.octet value) is = tt
-no-octets-expiry (port.expiry timer) is = absurd (true≢false is)
-no-octets-expiry (port.request r) is = tt
-no-octets-expiry port.pull is = tt
+no-octets-expiry h is = grind arith
 
 pub timed-cards-are-cards : TimedCardsAreCards
 timed-cards-are-cards = record {

@@ -34,11 +34,7 @@ module _ (c : Config) (lengths : Lengths) (late number : ℕ) (ranged : IsInRang
 
   pub stands-then : (events : List Event) (t : TimedCard) (e : Event) → Stands events t → e.line < c.lines → Stands (events ++ e ∷ []) (with_event e t)
   unfolding after_all
-  stands-then events t e s here = record {
-    card = ap (after e) s.card ∙ sym (after_all-append (fresh c) events (e ∷ []));
-    all = all-then events e s.all here;
-    lengths_are = lengths-stay e.line t.clock (orders_in (answer e t.card)) ∙ s.lengths_are;
-  }
+  stands-then events t e s here = grind (arith, after, after_all-append, fresh, all-then, lengths-stay, orders_in, answer)
 
   -- An event of the line.
   module _ (events : List Event) (t : TimedCard) (s : Stands events t) (what : line_event.Event) (timer : LinkTimer) where
@@ -66,14 +62,7 @@ module _ (c : Config) (lengths : Lengths) (late number : ℕ) (ranged : IsInRang
     by-begins : (P Q : ℕ → Type 0) → (runs timer o ≡ true → is_anew c service tei timer o q what ≡ false → IsDue timer t.clock P)
         → (runs timer q ≡ true → (m : ℕ) → t.clock.now ≤ m + late → P m → Q m) → (begins ≡ true → runs timer q ≡ true → Q (t.clock.now + duration lengths (its timer)))
         → runs timer q ≡ true → (b : Bool) → begins ≡ b → IsDue timer then_clock Q
-    by-begins P Q kept more anew run true is =
-        let then_due = t.clock.now + duration lengths (its timer) in
-        let m = moment_of number (its timer) t.clock.running in (
-          then_due,
-          moment-then ∙ ap (λ r. cond (r && begins) (Some then_due) (cond (runs timer o && not (runs timer q)) None m)) run ∙ ap (λ b. cond b (Some then_due) (cond (runs timer o && not (runs timer q)) None m)) is,
-          omega (arith, now-then),
-          anew is run,
-        )
+    by-begins P Q kept more anew run true is = grind (arith, duration, moment_of, moment-then, cond, runs, not, now-then)
     by-begins P Q kept more anew run false is = go (runs timer o) refl (is_anew c service tei timer o q what) refl
       where
         then_due : ℕ

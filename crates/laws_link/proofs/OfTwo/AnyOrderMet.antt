@@ -1,6 +1,6 @@
 -- The premises of the law on turns in any order are met: by the worked run in which both ways are busy at once, and after which
 -- no turn is left.
-use Rattle.laws_link.proofs.Vocabulary.{◌≡◌, ℕ, Bool, true, false, ◌&&◌, List, [], ◌∷◌, length, refl, sym, ap, ◌∙◌, true≢false, arith, ◌||◌, nat_le, and_parts, leb-true, seq, distance_of, named, supervisory_of, unnumbered_of, control_of, header_of, reading, Event, Data, requested, after_all, Endpoint, Ends, EndStep, sends, receives, StepAt, at_near, at_far, doing, doing_all, sound-all}
+use Rattle.laws_link.proofs.Vocabulary.{◌≡◌, ℕ, Bool, true, false, ◌&&◌, List, [], ◌∷◌, length, refl, true≢false, arith, ◌||◌, nat_le, and_parts, leb-true, seq, distance_of, named, supervisory_of, unnumbered_of, control_of, header_of, reading, Event, Data, requested, after_all, Endpoint, Ends, EndStep, sends, receives, StepAt, at_near, at_far, doing, doing_all, sound-all}
 use Rattle.laws_link.proofs.Vocabulary.{usual_terms, up, IsReady, IsTaken, asked, IsTurnOf, IsTurn, AreTurns, IsStill, settling, settled, may_send_information}
 use Rattle.laws_link.proofs.OfTwo.Premises.{begins}
 
@@ -20,14 +20,11 @@ are_turns (d ∷ ds) e = is_turn d e && are_turns ds (doing d e)
 
 by-act : (act : EndStep) (n m : Endpoint) → is_turn_of act n m ≡ true → IsTurnOf act n m
 unfolding is_turn_of
-by-act sends n m e = λ none. true≢false (sym e ∙ ap (λ b. b || n.link.pending) none.information ∙ none.pending)
-by-act receives n m e = leb-true 1 (length m.way) e
-by-act other n m e = true≢false (sym e)
+by-act other n m e = grind (arith, true≢false, leb-true, length)
 
 by-doing : (d : StepAt) (e : Ends) → is_turn d e ≡ true → IsTurn d e
 unfolding is_turn
-by-doing (at_near act) e h = by-act act e.near e.far h
-by-doing (at_far act) e h = by-act act e.far e.near h
+by-doing h e h' = grind (arith, by-act)
 
 by-test : (ds : List StepAt) (e : Ends) → are_turns ds e ≡ true → AreTurns ds e
 unfolding AreTurns are_turns

@@ -1,6 +1,6 @@
 -- In state 7 T200 runs only where something is awaited: each row, and each event.
 use Rattle.laws_link.proofs.Vocabulary.{◌≡◌, ◌≢◌, ◌⊎◌, ℕ, ◌+◌, ◌≤◌, ◌&&◌, nat_lt, Bool, true, false, List, Option, None, Some, refl, sym, ap, ◌∙◌, arith, true≢false, eq-eqb, ltb-false, Seq, Control, Information, ReceiveReady, ReceiveNotReady, Reject, ErrorCode, Refusal, State, TeiAssigned, AwaitingEstablishment, AwaitingRelease, Established, TimerRecovery, LinkTimer, T200, T203, ControlFrame}
-use Rattle.laws_link.proofs.Vocabulary.{Terms, Link, frame, Request, Event, received, Course, Step, begun, ◌then◌, nothing, runs, frame_in_4, frame_in_5, frame_in_6, Leads, then_leads, bit_leads, read_leads, named-within, both_ways, answer, by_number, peer_busy_is, answered, contents_in_7_8, failed, is_final, acknowledged_by_information_in_7, acknowledged_in_7, frame_in_7, unsolicited}
+use Rattle.laws_link.proofs.Vocabulary.{Terms, Link, Request, Event, Course, Step, begun, ◌then◌, nothing, runs, frame_in_4, frame_in_5, frame_in_6, Leads, then_leads, bit_leads, read_leads, named-within, both_ways, answer, by_number, peer_busy_is, answered, contents_in_7_8, failed, is_final, acknowledged_by_information_in_7, acknowledged_in_7, frame_in_7, unsolicited}
 use Rattle.laws_link.proofs.Vocabulary.{acknowledged_in_8}
 use Rattle.laws_link.proofs.Vocabulary.{frame_in_8, granted, release_in, is_established, offer_among, course, expired_in, frame_in, malformed_in}
 use Rattle.laws_link.proofs.OfTwo.Heeding.{words}
@@ -128,5 +128,4 @@ module _ (t : Terms) (l : Link) (h : Awaits l.state l.running l.peer_busy l.a l.
   offers ws = grind (arith, both_ways, one-more)
 
   pub event-awaits : (e : Event) → Awaiting (course t e l)
-  event-awaits (received (frame f)) = frames l.state refl f.address.command f.info f.control
-  event-awaits e = grind (arith, malformed, both_ways, expiries, before, asked, offers, elsewhere)
+  event-awaits e = grind (arith, frames, malformed, both_ways, expiries, before, asked, offers, elsewhere)

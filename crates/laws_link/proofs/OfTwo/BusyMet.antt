@@ -16,25 +16,11 @@ busy-losing-up = all-stay_up busy_losing both begins begins refl busy-losing-ahe
 
 pub near-silent : CanRecoverFromWith true busy_cut_off.near busy_cut_off.far
 unfolding seq distance_of named reading header_of control_of unnumbered_of supervisory_of after_all doing_all
-near-silent =
-    record {
-      repeats = λ e. refl;
-      own_busy = refl;
-      waiting = refl;
-      way = refl;
-      high = leb-true busy_cut_off.far.link.r busy_cut_off.near.link.s refl;
-    }
+near-silent = grind (arith, leb-true, busy_cut_off)
 
 pub far-silent : CanRecoverFrom busy_cut_off.far busy_cut_off.near
 unfolding seq distance_of named reading header_of control_of unnumbered_of supervisory_of after_all doing_all
-far-silent =
-    record {
-      repeats = λ e. refl;
-      own_busy = refl;
-      waiting = refl;
-      way = refl;
-      high = leb-true busy_cut_off.near.link.r busy_cut_off.far.link.s refl;
-    }
+far-silent = grind (arith, leb-true, busy_cut_off)
 
 pub near-missing : HasMissing 3 busy_cut_off.near busy_cut_off.far
 unfolding seq distance_of named reading header_of control_of unnumbered_of supervisory_of after_all doing_all

@@ -1,10 +1,10 @@
 -- What requests, expiries and offers do to a link that stays in states 7 and 8, and to what is on its line.
-use Rattle.laws_link.proofs.Vocabulary.{arith, ◌≡◌, ◌+◌, Bool, true, cond, IsTrue, List, [], ◌∷◌, ◌++◌, Option, None, Some, refl, ap, append_assoc, append-nil, ◌⊎◌, inl, nat_lt, slice_get, unwrap_or, and_parts, seq, Refusal, WrongState, Parts, State, Established, TimerRecovery, LinkTimer, T200, ControlFrame, Terms, Link, is_multiple_frame, frame_of, Request, Establish, expired, requested, offer}
-use Rattle.laws_link.proofs.Vocabulary.{inr, LinkCounts, with_counted, with_expiry}
-use Rattle.laws_link.proofs.Vocabulary.{Course, begun, frame_given, frames_of, IsNotRelease, ErrorCode, both_ways, command, enquire, has_room, rr_or_rnr, repeated, start, failed, granted, give_waiting, is_awaiting_acknowledgement, may_send_information, next_information, offer_among, send_acknowledgement, with_one_sent, course, expire_running, expired_in, given_of, is_running}
+use Rattle.laws_link.proofs.Vocabulary.{arith, ◌≡◌, ◌+◌, Bool, true, cond, IsTrue, List, [], ◌∷◌, ◌++◌, Option, None, Some, refl, ap, append_assoc, append-nil, ◌⊎◌, inl, nat_lt, slice_get, unwrap_or, and_parts, seq, Refusal, WrongState, Parts, Established, TimerRecovery, LinkTimer, ControlFrame, Terms, Link, is_multiple_frame, frame_of, Request, Establish, expired, requested, offer}
+use Rattle.laws_link.proofs.Vocabulary.{with_counted, with_expiry}
+use Rattle.laws_link.proofs.Vocabulary.{Course, begun, frame_given, frames_of, IsNotRelease, both_ways, command, has_room, granted, give_waiting, is_awaiting_acknowledgement, may_send_information, next_information, offer_among, send_acknowledgement, with_one_sent, course, expire_running, given_of, is_running}
 use Rattle.laws_link.proofs.OfTwo.Staying.{refused}
 use Rattle.laws_link.proofs.OfTwo.Trains.{Kind, numbered, enquiry, report, kind_of, kinds_of, kinds-append}
-use Rattle.laws_link.proofs.OfTwo.Effects.{Grown, grows, Kept, Went, unchanged}
+use Rattle.laws_link.proofs.OfTwo.Effects.{Grown, grows, Kept, Went}
 use Rattle.laws_link.proofs.OfTwo.Meeting.{line}
 
 abbrev IsUpIn : Course → Type 0
@@ -49,41 +49,12 @@ module _ (t : Terms) (l : Link) where
   pub asks-went : IsTrue (is_multiple_frame l.state) → (request : Request) (full : Bool) → IsNotRelease request → WentIn report l (course t (requested request full) l)
   asks-went up request full mild = grind (arith, by-refusal, both_ways, reports, refuses, refused)
 
-  -- An expiry: the timer does not run, or an enquiry waits.
-  enquires : (l' : Link) → l'.state ≡ TimerRecovery → l'.s ≡ l.s → l'.r ≡ l.r → l'.rejecting ≡ l.rejecting
-      → l'.waiting ≡ cond (has_room t l) (l.waiting ++ command (rr_or_rnr true l) ∷ []) l.waiting → Asked l l'
-  enquires l' state s r rejecting waiting = grind (arith, Grown, enquiry, grows)
-
-  again : l.state ≡ TimerRecovery → (b : Bool) → IsUpIn (cond b (start T200 (repeated (enquire t (begun l)))) (failed t ErrorCode.I (begun l)))
-      → Asked l (cond b (start T200 (repeated (enquire t (begun l)))) (failed t ErrorCode.I (begun l))).link
-  again here b up = grind (arith, enquires)
-
-  abbrev pub Expires : Course → Type 0
-  Expires c = Kept l c.link ⊎ Asked l c.link
-
-  expires-in : (here : State) → l.state ≡ here → IsTrue (is_multiple_frame here) → (timer : LinkTimer) → IsUpIn (expired_in here timer t (begun l))
-      → Expires (expired_in here timer t (begun l))
-  expires-in here e before timer up = grind (arith, enquires, again, unchanged)
-
   abbrev pub RanOut : LinkTimer → Course → Type 0
   RanOut timer c = Kept l c.link ⊎ ((is_running timer l ≡ true) × Asked l c.link)
 
-  running : (timer : LinkTimer) (c : Course) → is_running timer l ≡ true → Expires c → RanOut timer c
-  running timer c run o = grind arith
-
-  ran : (timer : LinkTimer) (b : Bool) (u : Course) → is_running timer l ≡ b → (IsUpIn u → Expires u) → IsUpIn (cond b u (begun l)) → RanOut timer (cond b u (begun l))
-  ran timer b u e x up = grind (arith, running, unchanged)
-
-  -- what is counted doesn't matter
-  uncounted : (change : LinkCounts → LinkCounts) (c : Course) → Kept (with_counted change l) c.link ⊎ Asked (with_counted change l) c.link → Expires c
-  uncounted change c (inl k) = inl (record { state = k.state; s = k.s; r = k.r; rejecting = k.rejecting; waiting = k.waiting })
-  uncounted change c (inr a) = inr (record { state = a.state; s = a.s; r = a.r; rejecting = a.rejecting; waiting = a.waiting })
-
 module _ (t : Terms) (l : Link) where
   pub expires-goes : IsTrue (is_multiple_frame l.state) → (timer : LinkTimer) → IsUpIn (course t (expired timer) l) → RanOut t l timer (course t (expired timer) l)
-  expires-goes before timer up =
-      ran t l timer (is_running timer l) (expire_running timer t (begun l)) refl
-      (λ u. uncounted t l (with_expiry timer) (expire_running timer t (begun l)) (expires-in t (with_counted (with_expiry timer) l) l.state refl before timer u)) up
+  expires-goes before timer up = grind (arith, is_running, expire_running, begun, with_expiry, with_counted)
 
   -- An offer.
   at-end : (way : List Parts) (f : Parts) (ws : List ControlFrame) → ws ≡ [] → kinds_of ((way ++ f ∷ []) ++ frames_of t ws) ≡ line t way ws ++ kind_of f.address.command f.control ∷ []

@@ -1,5 +1,5 @@
 -- What each frame does to a link that stays in states 7 and 8.
-use Rattle.laws_link.proofs.Vocabulary.{◌≡◌, ℕ, Bool, true, false, IsTrue, List, refl, sym, true≢false, Control, Information, ReceiveReady, ReceiveNotReady, Reject, State, Established, TimerRecovery, T200, T203, Terms, Link, is_multiple_frame, Course, begun, acknowledge, acknowledged_by_information_in_7, acknowledged_by_rnr_in_7, acknowledged_in_7, frame_in_7, acknowledged_in_8, frame_in_8}
+use Rattle.laws_link.proofs.Vocabulary.{◌≡◌, ℕ, Bool, true, false, IsTrue, List, refl, sym, true≢false, Control, Information, ReceiveReady, ReceiveNotReady, Reject, State, Established, TimerRecovery, T200, T203, Terms, Link, is_multiple_frame, Course, begun, acknowledge, acknowledged_by_information_in_7, acknowledged_by_rnr_in_7, acknowledged_in_7, frame_in_7, acknowledged_in_8, frame_in_8, arith}
 use Rattle.laws_link.proofs.Vocabulary.{with_counted, with_reject_received, frame_in, frame_step}
 use Rattle.laws_link.proofs.OfTwo.Trains.{kind_of}
 use Rattle.laws_link.proofs.OfTwo.Effects.{is_recovering, Kept, Heard, acknowledged-7, information-7, c-7, c-8, enquired-7, enquired-8, kept-by, backs-7, backs-8, informs}
@@ -34,9 +34,7 @@ module _ (t : Terms) (l : Link) where
   heard-7 here false octets (ReceiveNotReady nr false) up = kept-by t l nr acknowledged_by_rnr_in_7 (c-7 t l true false false) (as-it-was true) rnr-7 up
   heard-7 here true octets (Reject nr pf) up = tt
   heard-7 here false octets (Reject nr true) up = tt
-  heard-7 here false octets (Reject nr false) up =
-      let h = backs-7 t (counted l) nr here up in
-      record { state = h.state; s = h.s; r = h.r; rejecting = h.rejecting; waiting = h.waiting }
+  heard-7 here false octets (Reject nr false) up = grind (arith, backs-7)
   heard-7 here b octets other up = tt
 
   heard-8 : (b : Bool) (octets : List ℕ) (control : Control) → IsUpIn (frame_in_8 t b octets control (begun l))

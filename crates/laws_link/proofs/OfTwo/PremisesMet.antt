@@ -25,19 +25,15 @@ stay_ahead (d ∷ ds) e = nat_le e.far.link.r e.near.link.s && nat_le e.near.lin
 
 pub by-request : (request : Request) → mild_request request ≡ true → IsNotRelease request
 unfolding mild_request
-by-request Release e = absurd (cc)
-by-request other e = tt
+by-request other e = grind arith
 
 by-act : (act : EndStep) (n : Endpoint) → mild_act act n ≡ true → KeepsLinkUp act n
 unfolding mild_act
-by-act (requests request full) n e = by-request request e
-by-act (expires timer) n e = λ state running. e
-by-act other n e = tt
+by-act other n e = grind (arith, by-request)
 
 by-doing : (d : StepAt) (e : Ends) → mild d e ≡ true → KeepsLinksUp d e
 unfolding mild
-by-doing (at_near act) e h = by-act act e.near h
-by-doing (at_far act) e h = by-act act e.far h
+by-doing h e h' = grind (arith, by-act)
 
 pub by-test : (ds : List StepAt) (e : Ends) → stay_ahead ds e ≡ true → StayAhead ds e
 unfolding StayAhead stay_ahead
@@ -66,25 +62,11 @@ losing-up = all-stay_up losing both begins begins refl losing-ahead
 
 pub near-silent : CanRecoverFrom cut_off.near cut_off.far
 unfolding seq distance_of named reading header_of control_of unnumbered_of supervisory_of after_all doing_all
-near-silent =
-    record {
-      repeats = λ e. refl;
-      own_busy = refl;
-      waiting = refl;
-      way = refl;
-      high = leb-true cut_off.far.link.r cut_off.near.link.s refl;
-    }
+near-silent = grind (arith, leb-true, cut_off)
 
 pub far-silent : CanRecoverFrom cut_off.far cut_off.near
 unfolding seq distance_of named reading header_of control_of unnumbered_of supervisory_of after_all doing_all
-far-silent =
-    record {
-      repeats = λ e. refl;
-      own_busy = refl;
-      waiting = refl;
-      way = refl;
-      high = leb-true cut_off.near.link.r cut_off.far.link.s refl;
-    }
+far-silent = grind (arith, leb-true, cut_off)
 
 pub near-missing : HasMissing 3 cut_off.near cut_off.far
 unfolding seq distance_of named reading header_of control_of unnumbered_of supervisory_of after_all doing_all

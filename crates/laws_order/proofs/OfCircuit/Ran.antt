@@ -112,9 +112,7 @@ module _ (c : Config) (ranged : IsInRange c) (s : OctetEndpoint) (h : Ran c s) w
   on-line = on_its_way s.card s.line reached (subst (λ (x : Config). s.line < x.lines) (sym config) h.within)
 
   pub few-left : length (left_of (port_of s)) ≤ longest_text c.n201
-  few-left =
-      subst (λ (x : Config). length (left_of (port_at s.line s.card)) ≤ longest_text x.n201) config
-      (pulls_are_takes.left s.card s.line reached (subst (λ (x : Config). s.line < x.lines) (sym config) h.within))
+  few-left = grind (arith, length, config, pulls_are_takes, reached)
 
   -- the next frame consists of octets
   pub gives-octets : (f : NextFrame) → card_answer (frames.at s.line line.next) s.card.card ≡ line.gave (Some f) → AreOctets f.octets

@@ -124,14 +124,10 @@ module _ (l : Line) (fit : Begins l) where
     back-first all = heard-all v.far v.near v1.near h.back (sum_all near_takes ds' (as_wire h.there h.back v)) h.follows.comes all (tally ds one v h).near_heard
 
     far-asked : put_at v1.far < put_at v2.far → 1 ≤ sum_all far_sends es' (wire.doing_all ds' (as_wire h.there h.back v))
-    far-asked more =
-        let put = (tally es two v1 g1.now).far_put in
-        subst (λ f. 1 ≤ sum_all far_sends es' f) (sym g1.same) (omega (arith, put, more))
+    far-asked more = grind (arith, tally, g1, sum_all, far_sends)
 
     near-asked : put_at v1.near < put_at v2.near → 1 ≤ sum_all near_sends es' (wire.doing_all ds' (as_wire h.there h.back v))
-    near-asked more =
-        let put = (tally es two v1 g1.now).near_put in
-        subst (λ f. 1 ≤ sum_all near_sends es' f) (sym g1.same) (omega (arith, put, more))
+    near-asked more = grind (arith, tally, g1, sum_all, near_sends)
 
     back-last : HasHeard v2.far v3.near → length (wire.doing_all es' (wire.doing_all ds' (as_wire h.there h.back v))).far.way ≤ sum_all near_takes fs' (wire.doing_all es' (wire.doing_all ds' (as_wire h.there h.back v)))
     back-last all =
@@ -232,12 +228,7 @@ module _ (l : Line) (fit : Begins l) where
       let one = one-next b is v h in
       let rest = ahead bs (All-tail (AsksData l) b bs all) u (stands-beat b is v h) in
       let more : 1 + length bs ≡ suc (length bs) = omega arith in
-      subst (Ahead (suc (length bs)) v) (sym (one-done b bs v))
-      (record {
-        stands = rest.stands;
-        near = subst (λ k. Grown k (port_of v.near) (port_of (done bs u).near)) more (grown-both 1 (length bs) (port_of v.near) (port_of u.near) (port_of (done bs u).near) one.0 rest.near);
-        far = subst (λ k. Grown k (port_of v.far) (port_of (done bs u).far)) more (grown-both 1 (length bs) (port_of v.far) (port_of u.far) (port_of (done bs u).far) one.1 rest.far);
-      })
+      grind (arith, length, one-done, port_of, grown-both)
 
   -- ---- what is put comes, and something is put
 

@@ -1,7 +1,7 @@
 -- A call with clocks and without noise: its first beat. So no timer falls due in a call of which T200 runs long enough.
 use Rattle.laws_time.proofs.Vocabulary.{All, All-cons, All-nil, AllByRecursion, AreInRange, AsksData, Beat, Begins, Bool, Circuit, Clocked, Config, Establish, Face, IsClean, IsInRange, IsUndue, Lengths, Line, Link, List, NoneFallsDue, OctetEndpoint as Endpoint, Ran, Request, Service, StationStands, TeiAssigned, TimedEndpoint, [], ap, arith, as_endpoint, as_wire, asks, assigned, beat, begins}
 use Rattle.laws_time.proofs.Vocabulary.{Established}
-use Rattle.laws_time.proofs.Vocabulary.{calls, drop, end, endpoint, false, flags, fold, fresh_link as fresh, goes-on, gone, happens, hears, inl, inr, left_of, length, low_bits, obeyed, port-after, port_of, pulling, refl, stopped, subst, suc, sym, terms, true, with_first_of, within-ports, without_first_octet, ℕ, ◌/◌, ◌<◌, ◌∙◌, ◌∷◌, ◌≡◌, ◌≤◌}
+use Rattle.laws_time.proofs.Vocabulary.{calls, drop, end, endpoint, false, flags, fold, fresh_link as fresh, goes-on, gone, happens, hears, inl, left_of, length, low_bits, obeyed, port-after, port_of, pulling, refl, stopped, subst, suc, sym, terms, true, with_first_of, within-ports, without_first_octet, ℕ, ◌/◌, ◌<◌, ◌∙◌, ◌∷◌, ◌≡◌, ◌≤◌}
 use Rattle.model_card.specs.ports.Port as port
 use Rattle.laws_wire.specs.Call as call
 use Rattle.laws_wire.proofs.Beginning as beginning
@@ -292,9 +292,7 @@ module _ (l : Line) (fit : Begins l) (b : Beat) (data_alone : AsksData l b) (is_
   OldFirst side a m = OldAt l fit w1 (both_hear v2.near v2.far) 0 refl stands-first side [] a m
 
   old-first : (side : Bool) (a m s : ℕ) → s ≡ (link_of_end l fit side (end_of l fit side (both_hear v2.near v2.far))).s → Due l.service l.tei (cfg l fit side) (rng l fit side) (lens l fit side) Never moment a s m → OldFirst side a m
-  old-first side a m s is (inl never) = absurd never
-  old-first side a m s is (inr (less, late)) =
-      ([], [], refl, subst (λ (v : Circuit). a < (link_of_end l fit side (end_of l fit side v)).s) (sym (none-done l fit (both_hear v2.near v2.far))) (omega (arith, less, is)), late)
+  old-first side a m s is h = grind (arith, link_of_end, end_of, none-done, both_hear)
 
   pub at-first : At l fit w1 (both_hear v2.near v2.far) 0 refl stands-first []
   at-first = record {

@@ -66,8 +66,7 @@ module _ (service : Service) (tei : ℕ) where
   Talks k = IsTalk service tei k
 
   talk-turned : (k : StepAt) → Talks k → Talks (turn k)
-  talk-turned (at_near act) is = is
-  talk-turned (at_far act) is = is
+  talk-turned h is = grind arith
 
   pub talks-turned : (es : List StepAt) → All Talks es → All Talks (map turn es)
   talks-turned [] all = All-nil Talks

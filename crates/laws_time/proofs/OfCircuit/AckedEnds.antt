@@ -84,12 +84,10 @@ module _ (service : Service) (tei : ℕ) (c : Config) (ranged : IsInRange c) (ls
       less h1z h2z = grind (arith, not-both)
 
       goes-on : (m : ℕ) → Due now (its_link a.at).a (its_link a.at).s m → l'.a ≡ (its_link a.at).a → (its_link a.at).s ≤ l'.s → Due now l'.a l'.s m
-      goes-on m (inl old) same more = inl (subst (λ n. Old n m) (sym same) old)
-      goes-on m (inr (low, late)) same more = inr (omega (arith, low, same, more), late)
+      goes-on m h same more = grind arith
 
       due : (m : ℕ) → Awaits l' → Open l' → (m ≡ a.clock.now + a.clock.lengths.t200) ⊎ ((t200_at c ranged service tei a ≡ Some m) × (Open l' → Open (its_link a.at) × (l'.a ≡ (its_link a.at).a))) → Due now l'.a l'.s m
-      due m waits open_then (inl is) =
-          let n = h.now_is in let t = ap (λ (ls : Lengths). ls.t200) h.lengths in let more = less waits open_then in inr (more, omega (arith, is, n, t))
+      due m waits open_then (inl is) = grind (arith, less)
       due m waits open_then (inr (was, kept)) = let k = kept open_then in let more = (moves k.0 open_then).sent in goes-on m ((h.claim m was).2 k.0) k.1 more
 
       long : (m : ℕ) (X : Type 0) → (m ≡ a.clock.now + a.clock.lengths.t200) ⊎ ((t200_at c ranged service tei a ≡ Some m) × X) → ls.t200 ≤ m

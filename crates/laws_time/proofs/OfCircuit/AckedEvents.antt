@@ -1,6 +1,6 @@
 -- T200 of an end in a call, event by event: until when it runs at least, by what is not acknowledged yet.
-use Rattle.laws_time.proofs.Vocabulary.{All-append, All-cons, All-nil, Answer, AreAtLines, Bool, Clock, Config, IsInRange, Link, List, None, Observed, OctetCard, Option, Ran, Service, Some, T200, TimedCard, TimedEndpoint, View, [], after_all-append, ap, arith, at, awaits, brings, by_event, by_frame_begun, card_of, eqb-true, expiry, false, fold, frames_after_all, happens, inl, inr}
-use Rattle.laws_time.proofs.Vocabulary.{is_anew, is_multiple_frame, is_on, line_at, link_of, meant_all, meant_at_lines, moment_at, moment_of, nat_lt, not, obeyed, octet_at, on-line-now, orders_in, place_in, ports_fresh as fresh, refined_card, refl, renews, state_number, subst, sym, true, view_behind, view_of, ℕ, ◌%◌, ◌&&◌, ◌++◌, ◌+◌, ◌<◌, ◌==◌, ◌||◌}
+use Rattle.laws_time.proofs.Vocabulary.{All-append, All-cons, All-nil, Answer, AreAtLines, Bool, Clock, Config, IsInRange, Link, List, None, Observed, OctetCard, Option, Ran, Service, Some, T200, TimedCard, TimedEndpoint, View, [], after_all-append, ap, arith, at, awaits, brings, by_event, by_frame_begun, card_of, expiry, false, fold, frames_after_all, happens, inl, inr}
+use Rattle.laws_time.proofs.Vocabulary.{is_anew, is_multiple_frame, is_on, line_at, link_of, meant_all, meant_at_lines, moment_at, moment_of, obeyed, octet_at, on-line-now, orders_in, place_in, ports_fresh as fresh, refined_card, refl, renews, state_number, subst, sym, true, view_behind, view_of, ℕ, ◌++◌, ◌+◌, ◌<◌}
 use Rattle.laws_time.proofs.Vocabulary.{◌∙◌, ◌∷◌, ◌≡◌, ◌⊎◌}
 use Rattle.lapd_frame.specs.declared.timers.Timer.TheVariants as timers
 use Rattle.model_line.specs.Event as line
@@ -40,14 +40,7 @@ record NotAnew (o q : Observed) (renewed : Bool) : Type 0 where
   none : o.state ≡ 7 → renewed ≡ false
 
 kept-so : (c : Config) (service : Service) (tei : ℕ) (o q : Observed) (what : line.Event) → is_anew c service tei T200 o q what ≡ false → NotAnew o q (brings (renews T200 o.acknowledged o.busy) c service tei what)
-kept-so c service tei o q what e = go (o.state == q.state) refl (o.state == 7) refl e
-  where
-    renewed : Bool
-    renewed = brings (renews T200 o.acknowledged o.busy) c service tei what
-
-    go : (same : Bool) → (o.state == q.state) ≡ same → (up : Bool) → (o.state == 7) ≡ up → ((not same || nat_lt o.expiries q.expiries) || (up && renewed)) ≡ false → NotAnew o q renewed
-    go true same up is e = record { state = eqb-true o.state q.state same; none = λ at_7. grind (arith, is, at_7, e) }
-    go false same up is e = absurd (cc e)
+kept-so c service tei o q what e = grind arith
 
 module _ (c : Config) (ranged : IsInRange c) (service : Service) (tei : ℕ) where
   abbrev pub link_now : TimedEndpoint → Link
@@ -134,32 +127,10 @@ module _ (c : Config) (ranged : IsInRange c) (service : Service) (tei : ℕ) whe
       module _ (on : IsPlaced a) (on_then : IsPlaced (happens ev a)) (fine : IsFine (link_now a)) (fine_then : IsFine (link_now (happens ev a))) (moves : Open (link_now a) → Open (link_now (happens ev a)) → Moves (link_now a) (link_now (happens ev a)))
           (none : IsNoExpiry what) where
         is-open : Open (link_now (happens ev a)) → state_number (link_now a).state ≡ state_number (link_now (happens ev a)).state → Open (link_now a)
-        is-open h same = go fine
-          where
-            at-7 : state_number (link_now a).state ≡ 7
-            at-7 = same ∙ ap state_number h.state
-
-            go : IsFine (link_now a) → Open (link_now a)
-            go (inl is) = let e = sym (ap state_number is) ∙ at-7 in absurd (omega (arith, e))
-            go (inr (inl is)) = let e = sym (ap state_number is) ∙ at-7 in absurd (omega (arith, e))
-            go (inr (inr open_now)) = open_now
+        is-open h same = grind arith
 
         same-a : is_anew c service tei T200 o q what ≡ false → Open (link_now (happens ev a)) → awaits q ≡ true → Open (link_now a) × ((link_now (happens ev a)).a ≡ (link_now a).a)
-        same-a kept h waits =
-            let k = kept-so c service tei o q what kept in
-            let before = seen on in let then = seen-then on_then in
-            let same : state_number (link_now a).state ≡ state_number (link_now (happens ev a)).state = sym before.state ∙ k.state ∙ then.state in
-            let was = is-open h same in
-            let known = before.numbers (ap is_multiple_frame was.state) in
-            let known_then = then.numbers (ap is_multiple_frame h.state) in
-            let up : o.state ≡ 7 = before.state ∙ ap state_number was.state in
-            let b = by on on_then in
-            let acknowledged = ap (λ (x : Observed). x.acknowledged) b
-            ∙ event-same c service tei what (moment_at c past number what).answer o none up (known.busy_is ∙ was.free) (ap (λ (x : Observed). x.state) (sym b) ∙ then.state ∙ ap state_number h.state) (ap awaits (sym b) ∙ waits) (k.none up) in
-            let number_same : (link_now (happens ev a)).a % 128 ≡ (link_now a).a % 128 = sym known_then.acknowledged ∙ acknowledged ∙ known.acknowledged in
-            let m = moves was h in
-            let low = m.low in let high = m.high in
-            (was, omega (arith, number_same, low, high))
+        same-a kept h waits = grind (arith, kept-so, seen, seen-then, state_number, happens, is-open, is_multiple_frame, by, event-same, moment_at, awaits)
 
         pub runs-then : (m : ℕ) → (t200_at a ≡ Some m → Awaits (link_now a)) → t200_at (happens ev a) ≡ Some m → Runs m
         runs-then m awaited at_m =

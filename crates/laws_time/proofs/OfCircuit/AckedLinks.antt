@@ -89,13 +89,7 @@ module _ (n m : Endpoint) (hn : Steady n) (hm : Steady m) (there : Direction n m
       let form = ap (λ g. with_link (received (frame g)) m) here.is
       ∙ ap as_is (ap (with_link (received (frame (information_frame n.terms l)))) (is-steady m hm) ∙ takes-one m false n.terms l v fits named-v low next) in
       let most = high in
-      record {
-        v = v;
-        low = low;
-        up = omega (arith, up, most);
-        says = ap (λ (g : Parts). number_in g.control) here.is ∙ ap (λ x. Some (seq x)) here.means;
-        is = ap (λ (x : Endpoint). x.link.a) form;
-      }
+      grind (arith, seq)
 
   heeds-n : (f : Parts) (fs : List Parts) (v : ℕ) → m.link.a ≤ v → (here : Notes n.terms v f)
       → Lane n.terms n.link.contents m.link.r n.link.s v n.link.r n.link.pending fs → Heeded m (with_link (received (frame f)) m) f
@@ -106,13 +100,7 @@ module _ (n m : Endpoint) (hn : Steady n) (hm : Steady m) (there : Direction n m
       let form = ap (λ g. with_link (received (frame g)) m) here.is
       ∙ ap as_is (ap (with_link (received (frame (acknowledgement_frame n.terms l)))) (is-steady m hm) ∙ takes-note m false n.terms l v named-v low) in
       let most = high in
-      record {
-        v = v;
-        low = low;
-        up = omega (arith, up, most);
-        says = ap (λ (g : Parts). number_in g.control) here.is ∙ ap (λ x. Some (seq x)) here.means;
-        is = ap (λ (x : Endpoint). x.link.a) form;
-      }
+      grind (arith, seq)
 
   pub heeds : (f : Parts) (fs : List Parts) → n.way ≡ f ∷ fs → Heeded m (with_link (received (frame f)) m) f
   heeds f fs e = go (subst (Lane n.terms n.link.contents m.link.r n.link.s m.link.a n.link.r n.link.pending) e there.lane)

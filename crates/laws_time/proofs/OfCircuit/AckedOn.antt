@@ -101,18 +101,12 @@ module _ (service : Service) (tei : ℕ) (few : tei ≤ 126) (c d : Config) (fac
       (counts service tei c d p q face back before behind w h, counts service tei d c q p back face behind before (turned w) (up-turned p q before behind w h))
 
   pub counted : (w : Wire) (weight : ℕ) → On w weight → Counted service tei c w × Counted service tei d (turned w)
-  counted w weight (inl (inl h)) = (
-    counted-by c d unheard unheard w (end t asked []) (end u fresh []) h.both refl,
-    counted-by d c unheard unheard (turned w) (end u fresh []) (end t asked []) (turned-both service tei c d 0 0 unheard unheard w _ _ h.both) refl,
-  )
+  counted w weight (inl (inl h)) = grind (arith, counted-by, unheard, end, asked, fresh, turned, turned-both)
   counted w weight (inl (inr (inl h))) = (
     counted-by c d unheard unheard w (end t awaiting (sabme t ∷ [])) (end u fresh []) h.both refl,
     counted-by d c unheard unheard (turned w) (end u fresh []) (end t awaiting (sabme t ∷ [])) (turned-both service tei c d 0 0 unheard unheard w _ _ h.both) refl,
   )
-  counted w weight (inl (inr (inr (inl h)))) = (
-    counted-by c d unheard second w (end t awaiting []) (with_ua_waiting h.m) h.both (let none = none-received h.m h.pair in omega (arith, none)),
-    counted-by d c second unheard (turned w) (with_ua_waiting h.m) (end t awaiting []) (turned-both service tei c d 0 0 unheard second w _ _ h.both) (sent-by h.m h.pair),
-  )
+  counted w weight (inl (inr (inr (inl h)))) = grind (arith, counted-by, unheard, end, awaiting, with_ua_waiting, none-received, turned, turned-both, sent-by)
   counted w weight (inl (inr (inr (inr (inl h))))) = (
     counted-by c d unheard second w (end t awaiting []) (with_ua_first h.m) h.both (let none = none-received h.m h.pair in omega (arith, none)),
     counted-by d c second unheard (turned w) (with_ua_first h.m) (end t awaiting []) (turned-both service tei c d 0 0 unheard second w _ _ h.both) (let sent = sent-by h.m h.pair in omega (arith, sent)),
@@ -129,10 +123,7 @@ module _ (service : Service) (tei : ℕ) (few : tei ≤ 126) (c d : Config) (fac
   far-is first w m h = own-stands service tei d 0 w.far m h.stands
 
   open-now : (w : Wire) → UpNow w → Open (own_link service tei w.near) × Open (own_link service tei w.far)
-  open-now w (p, q, before, behind, (x, y, n, m, h)) = (
-    subst Open (sym (own-stands service tei c p (logged x w.near) n h.near.stands)) (open-steady n h.pair.near),
-    subst Open (sym (own-stands service tei d q (logged y w.far) m h.far.stands)) (open-steady m h.pair.far),
-  )
+  open-now w h = grind arith
 
   abbrev Rings : Link → Type 0
   Rings l = (l.state ≡ AwaitingEstablishment) × (l.r ≡ 0) × (l.a ≡ 0)
@@ -182,10 +173,8 @@ module _ (service : Service) (tei : ℕ) (few : tei ≤ 126) (c d : Config) (fac
   up-by-far : (w : Wire) (weight : ℕ) → On w weight → 1 ≤ (own_link service tei w.far).r → UpNow w
   up-by-far w weight (inl (inl h)) some = let is = ap (λ (l : Link). l.r) (far-is unheard w (end u fresh []) h.both.far) in absurd (omega (arith, some, is))
   up-by-far w weight (inl (inr (inl h))) some = let is = ap (λ (l : Link). l.r) (far-is unheard w (end u fresh []) h.both.far) in absurd (omega (arith, some, is))
-  up-by-far w weight (inl (inr (inr (inl h)))) some =
-      let is = ap (λ (l : Link). l.r) (far-is second w (with_ua_waiting h.m) h.both.far) in let none = none-received h.m h.pair in absurd (omega (arith, some, is, none))
-  up-by-far w weight (inl (inr (inr (inr (inl h))))) some =
-      let is = ap (λ (l : Link). l.r) (far-is second w (with_ua_first h.m) h.both.far) in let none = none-received h.m h.pair in absurd (omega (arith, some, is, none))
+  up-by-far w weight (inl (inr (inr (inl h)))) some = grind (arith, far-is, with_ua_waiting, none-received)
+  up-by-far w weight (inl (inr (inr (inr (inl h))))) some = grind (arith, far-is, with_ua_first, none-received)
   up-by-far w weight (inl (inr (inr (inr (inr h))))) some = called-up w h.n h.m h.talk
   up-by-far w weight (inr up) some = up
 

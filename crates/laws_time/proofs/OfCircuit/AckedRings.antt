@@ -1,5 +1,5 @@
 -- Beats of a call on the circuit without clocks: so many beats after SABME was put both ends are up.
-use Rattle.laws_time.proofs.Vocabulary.{All, All-drop, All-take, AsksData, Beat, Begins, Circuit, Established, Line, List, Wire, ap, arith, as_wire, doing_all, doings_meant, drop, false, left_of, length, length-drop, length-take-le, longest, own_link, port_of, subst, sym, take, take-append-drop, terms_in_range, true, ◌*◌, ◌+◌, ◌<◌, ◌∙◌, ◌≡◌, ◌≤◌}
+use Rattle.laws_time.proofs.Vocabulary.{All, All-drop, All-take, AsksData, Beat, Begins, Circuit, Line, List, Wire, ap, arith, as_wire, doing_all, doings_meant, drop, false, left_of, length, length-drop, length-take-le, longest, own_link, port_of, subst, sym, take, take-append-drop, terms_in_range, true, ◌*◌, ◌+◌, ◌<◌, ◌∙◌, ◌≡◌, ◌≤◌}
 use Rattle.laws_wire.specs.Wire as wire
 use Rattle.laws_order.specs.circuit.Circuit.{StepAt}
 use Rattle.laws_time.proofs.OfCircuit.AckedBeats.{Now, Went, goes, tally, HasHeard, heard-all, done, done-append, data-steps, Stands, stands-then, ahead, asked-far, heard-far, heard-near, near-fine}
@@ -71,9 +71,7 @@ module _ (l : Line) (fit : Begins l) where
         let up = both-up l.service l.tei fit.call.terminal l.near l.far (face l fit false) (face l fit true) (terms_in_range l.near fit.call.near.0 l.service l.tei fit.call.terminal) (terms_in_range l.far fit.call.far.0 l.service l.tei fit.call.terminal)
         rs' ds' es' fs' (all-meant l.service l.tei rs zero_data v) (all-meant l.service l.tei ds one v0) (all-meant l.service l.tei es two v1) (all-meant l.service l.tei fs three v2) (as_wire h.there h.back v) h.weight h.on_wire
         (omega (arith, put, first)) there (subst (λ f. 1 ≤ sum_all far_sends es' f) (sym same1) (omega (arith, put_far, asked))) back in
-        subst (λ (f : Wire). (own_link l.service l.tei f.near).state ≡ Established) same3
-        (on.by-up l.service l.tei fit.call.terminal l.near l.far (face l fit false) (face l fit true) (terms_in_range l.near fit.call.near.0 l.service l.tei fit.call.terminal) (terms_in_range l.far fit.call.far.0 l.service l.tei fit.call.terminal)
-        (wire.doing_all fs' (wire.doing_all es' (wire.doing_all ds' (wire.doing_all rs' (as_wire h.there h.back v))))) up)
+        grind (arith, own_link, same3, on.by-up, face, terms_in_range, wire.doing_all, as_wire)
 
   -- in beats
   module _ (v : Circuit) (h : Stands l fit v) (few : length (left_of (port_of v.near)) ≤ 7) where

@@ -1,6 +1,6 @@
 -- Either end of a call with its clock, and the circuit without clocks: one step of both.
 use Rattle.laws_time.proofs.Vocabulary.{All, All-cons, All-head, All-nil, AwaitingEstablishment, Begins, Bool, Circuit, Config, Established, Face, IsCarried, IsInRange, IsSoundPort, Lengths, Line, Link, LinkEndpoint, List, None, OctetEndpoint as Endpoint, Option, Parts, Ran, Some, StationStands, TeiAssigned, TimedEndpoint, Wire, [], act_meant, answered, ap, arith, as_endpoint, as_wire}
-use Rattle.laws_time.proofs.Vocabulary.{doing_all, doing_meant, doings_meant, faces, faces-back, false, gained, happens, inl, inr, map, not, octet_orders, on-line, one-done, one-heard, option_map, option_to_list, own_link, own_side, port_of, sound-port, spelling, subst, sym, terms_in_range, true, wire_doing_all, ℕ, ◌∙◌, ◌∷◌, ◌≡◌, ◌≤◌, ◌⊎◌}
+use Rattle.laws_time.proofs.Vocabulary.{doing_all, doing_meant, doings_meant, faces, faces-back, false, gained, happens, map, not, octet_orders, on-line, one-done, one-heard, option_map, option_to_list, own_link, own_side, port_of, sound-port, spelling, subst, sym, terms_in_range, true, wire_doing_all, ℕ, ◌∙◌, ◌∷◌, ◌≡◌, ◌≤◌, ◌⊎◌}
 use Rattle.model_bits.specs.Stream as stream
 use Rattle.model_card.specs.ports.Port as port
 use Rattle.laws_wire.specs.Call.{IsTalk}
@@ -67,40 +67,25 @@ module _ (l : Line) (fit : Begins l) where
   far-station v h = on.far-stands l.service l.tei fit.call.terminal l.near l.far (face false) (face true) (terms_in_range l.near fit.call.near.0 l.service l.tei fit.call.terminal) (terms_in_range l.far fit.call.far.0 l.service l.tei fit.call.terminal) (wire_of v h) h.weight h.on_wire
 
   fine-near : (x : Link) (A B C : Type 0) → ((x.state ≡ AwaitingEstablishment) × A × C) ⊎ (B × Open x) → IsFine x
-  fine-near x A B C (inl rings) = inr (inl rings.0)
-  fine-near x A B C (inr up) = inr (inr up.1)
+  fine-near x h h' h'' h''' = grind arith
 
   fine-far : (x : Link) → (x.state ≡ TeiAssigned) ⊎ Open x → IsFine x
-  fine-far x (inl is) = inl is
-  fine-far x (inr open_now) = inr (inr open_now)
+  fine-far x h = grind arith
 
   pub facts : (b : Bool) (v : Circuit) → Now l fit v → EndFacts b (end_of b v)
   facts false v h =
       let x = near-station v h in
-      record {
-        way = h.there;
-        place = x.0;
-        n = x.1;
-        stands = x.2;
-        fine = fine-near (link_of_end false v.near) _ _ _ (on.near-place l.service l.tei fit.call.terminal l.near l.far (face false) (face true) (terms_in_range l.near fit.call.near.0 l.service l.tei fit.call.terminal) (terms_in_range l.far fit.call.far.0 l.service l.tei fit.call.terminal) (wire_of v h) h.weight h.on_wire);
-      }
+      grind (arith, fine-near, on.near-place, terms_in_range)
   facts true v h =
       let x = far-station v h in
-      record {
-        way = h.back;
-        place = x.0;
-        n = x.1;
-        stands = x.2;
-        fine = fine-far (link_of_end true v.far) (on.far-place l.service l.tei fit.call.terminal l.near l.far (face false) (face true) (terms_in_range l.near fit.call.near.0 l.service l.tei fit.call.terminal) (terms_in_range l.far fit.call.far.0 l.service l.tei fit.call.terminal) (wire_of v h) h.weight h.on_wire);
-      }
+      grind (arith, fine-far, on.far-place, terms_in_range)
 
   pub now-one : (x : StepAt) → IsDataAt l.service l.tei x → (v : Circuit) → Now l fit v → Now l fit (doing x v)
   unfolding doing_all
   now-one x is v h = (goes l fit (x ∷ []) (All-cons (IsDataAt l.service l.tei) x [] is (All-nil (IsDataAt l.service l.tei))) v h).now
 
   is-at : (b : Bool) (act : Step) → IsDataStep l.service l.tei act → IsDataAt l.service l.tei (at_end b act)
-  is-at false act is = is
-  is-at true act is = is
+  is-at h act is = grind arith
 
   -- ---- how far the link goes on
 

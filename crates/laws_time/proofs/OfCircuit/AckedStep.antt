@@ -1,5 +1,5 @@
 -- Requests, a pull and an octet at either end of a call with its clock.
-use Rattle.laws_time.proofs.Vocabulary.{All, All-cons, All-head, All-nil, All-tail, AsksOctets, Begins, Bool, Circuit, Config, Data, IsDataOf, Line, List, None, OctetEndpoint as Endpoint, Option, Port, Request, Some, TimedEndpoint, [], ap, arith, asks, doing_all, false, fold, gained, goes-on, happens, hears, not, port_of, refl, subst, sym, true, unwrap_or, with_first_of, ℕ, ◌∙◌, ◌∷◌, ◌≡◌, ◌≤◌}
+use Rattle.laws_time.proofs.Vocabulary.{All, All-cons, All-head, All-nil, All-tail, AsksOctets, Begins, Bool, Circuit, Config, Data, IsDataOf, Line, List, None, OctetEndpoint as Endpoint, Option, Port, Request, Some, TimedEndpoint, [], ap, arith, asks, doing_all, fold, gained, goes-on, happens, hears, not, port_of, refl, subst, sym, unwrap_or, with_first_of, ℕ, ◌∙◌, ◌∷◌, ◌≡◌, ◌≤◌}
 use Rattle.model_bits.specs.Stream as stream
 use Rattle.model_card.specs.ports.Port as port
 use Rattle.laws_order.specs.circuit.Circuit as circuit
@@ -33,9 +33,7 @@ module _ (l : Line) (fit : Begins l) where
   all-other b (r ∷ rs) v = all-other b rs (doing (at_end l fit b (requests r)) v) ∙ ask-other b r v
 
   is-asked : (b : Bool) (r : Request) → IsDataOf l r → IsDataAt l.service l.tei (at_end l fit b (requests r))
-  is-asked false (Data s t contents) is = is
-  is-asked true (Data s t contents) is = is
-  is-asked b other is = absurd is
+  is-asked b other is = grind arith
 
   low-one : (b : Bool) (r : Request) → IsDataOf l r → (v : Circuit) → Now l fit v → (link_of_end l fit b (end_of l fit b v)).a ≤ (link_of_end l fit b (end_of l fit b (doing (at_end l fit b (requests r)) v))).a
   low-one b (Data s t contents) is v h = low l fit b (requests (Data s t contents)) is v h

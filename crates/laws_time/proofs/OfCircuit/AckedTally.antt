@@ -59,9 +59,7 @@ module _ (size : ℕ) where
       put : put_at s ≡ put_at v.near + sum_all near_sends (near_of o) (as_wire there back v)
 
     same-port : (s : Endpoint) → port_of s ≡ port_of v.near → (o : Option wire.Step) → sum_all near_takes (near_of o) (as_wire there back v) ≡ 0 → sum_all near_sends (near_of o) (as_wire there back v) ≡ 0 → Own o s
-    same-port s same o takes puts =
-        let a = ap (λ (p : Port). length (heard_in size p.received)) same in let b = ap (λ (p : Port). length p.items) same in
-        record { heard = omega (arith, a, takes); put = omega (arith, b, puts) }
+    same-port s same o takes puts = grind arith
 
     pulled : (due : Bool) → is_due (port_of v.near) ≡ due → Own (cond due (Some wire.sends) None) (circuit.happens port.pull v.near)
     pulled false e =

@@ -1,6 +1,6 @@
 -- T200 of an end after an event: it was started anew, or it awaits the same answer as before.
-use Rattle.laws_time.proofs.Vocabulary.{AreAtLines, AwaitingEstablishment, Bool, Clock, Config, IsInRange, Link, List, None, Observed, Option, Parts, Service, Some, T200, TeiAssigned, Timer, anew, ap, arith, awaits, brings, by_frame, by_heard, cond, eqb-true, false, frame_of, holds, if◌then◌else◌, inl, inr, is_anew, is_multiple_frame, is_some, is_up, its_frame, line_at, link_of}
-use Rattle.laws_time.proofs.Vocabulary.{ltb-false, ltb-true, malformed, moment_at, moment_of, nat_lt, not, numbers-now, obeyed, option_map_or, orders_in, place_in, refl, renews, runs, state_number, subst, sym, true, true≢false, view_behind, view_of, ℕ, ◌%◌, ◌&&◌, ◌+◌, ◌<◌, ◌||◌, ◌∙◌, ◌≡◌, ◌≤◌, ◌⊎◌}
+use Rattle.laws_time.proofs.Vocabulary.{AreAtLines, AwaitingEstablishment, Bool, Clock, Config, IsInRange, Link, List, None, Observed, Option, Parts, Service, Some, T200, TeiAssigned, Timer, anew, arith, awaits, brings, by_frame, by_heard, cond, eqb-true, false, frame_of, holds, is_anew, is_multiple_frame, is_some, is_up, its_frame, line_at, link_of}
+use Rattle.laws_time.proofs.Vocabulary.{malformed, moment_at, moment_of, not, numbers-now, obeyed, option_map_or, orders_in, place_in, renews, runs, state_number, sym, true, view_behind, view_of, ℕ, ◌%◌, ◌&&◌, ◌+◌, ◌<◌, ◌||◌, ◌∙◌, ◌≡◌, ◌⊎◌}
 use Rattle.lapd_frame.specs.declared.timers.Timer.TheVariants as timers
 use Rattle.model_bits.specs.Stream as stream
 use Rattle.model_line.specs.Event as line
@@ -12,7 +12,6 @@ use Rattle.model_card.specs.Run as frame_runs
 use Rattle.laws_trace.proofs.ObservedShape.{known_of}
 use Rattle.laws_trace.proofs.SeenAs.{seen-before, known-up}
 use Rattle.laws_trace.proofs.TimerClaims.{IsKnown}
-use Rattle.laws_trace.proofs.TimersWatched.{Known}
 use Rattle.laws_time.proofs.Ordered.{moment-left}
 use Rattle.laws_time.proofs.OfCircuit.AckedOn.{Open}
 
@@ -52,12 +51,7 @@ module _ (c : Config) (o : Observed) (up : o.state ≡ 7) (free : o.busy ≡ fal
   by-control f = grind (arith, eqb-true)
 
   pub heard-same : (service : Service) (tei : ℕ) (e : stream.Event) → Same (by_heard c service tei e o) (brings (renews T200 o.acknowledged o.busy) c service tei (hears e))
-  heard-same service tei e = go (is_some (malformed c service tei e)) (its_frame service tei (frame_of c e))
-    where
-      go : (wrong : Bool) (f : Option Parts) → Same (if is_up o.state && wrong then anew o else option_map_or (by_frame c o) f o) (option_map_or (λ (f : Parts). renews T200 o.acknowledged o.busy f.control) f false)
-      go true f at_7 waits none = grind arith
-      go false None at_7 waits none = grind arith
-      go false (Some f) at_7 waits none = grind (arith, by-control)
+  heard-same service tei e = grind (arith, is_some, malformed, its_frame, frame_of, is_up, anew, option_map_or, by_frame, renews, by-control)
 
 -- ---- what an observer knows of a link
 
@@ -67,15 +61,7 @@ pub record IsSeen (o : Observed) (l : Link) : Type 0 where
 
 pub seen-at : (c : Config) (events : List frame_event.Event) (number : ℕ) (ranged : IsInRange c) (all : AreAtLines (cards.fresh c) events) (within : number < c.lines) (service : Service) (tei : ℕ) (l : Line)
     → line_at number (frame_runs.after_all (cards.fresh c) events) ≡ l → (place : ℕ) → place_in l tei ≡ Some place → IsSeen (view_of c service tei number events).link (link_of service tei l)
-seen-at c events number ranged all within service tei l is place on =
-    let its = line_at number (frame_runs.after_all (cards.fresh c) events) in
-    let x = seen-before c events number ranged all within service tei place (ap (λ l. place_in l tei) is ∙ on) in
-    let known = (holds c events number ranged all within service tei).true_of in
-    let k = link_of service tei its in
-    subst (IsSeen (view_of c service tei number events).link) (ap (link_of service tei) is) (record {
-      state = x.state_is;
-      numbers = λ up. subst (λ (n : Known). IsKnown n k.a k.s k.peer_busy) (sym (numbers-now c events number ranged all within service tei)) (known-up k.state _ k.a k.s k.peer_busy up known);
-    })
+seen-at c events number ranged all within service tei l is place on = grind (arith, line_at, frame_runs.after_all, cards.fresh, seen-before, place_in, holds, link_of, view_of, numbers-now, known-up)
 
 -- The states of a link in a call; and those in which it awaits an answer.
 abbrev pub IsFine : Link → Type 0
@@ -86,20 +72,10 @@ Awaits l = (l.state ≡ AwaitingEstablishment) ⊎ (Open l × (l.a < l.s))
 
 module _ (o : Observed) (l : Link) (x : IsSeen o l) where
   open-known : Open l → (o.state ≡ 7) × (o.acknowledged ≡ l.a % 128) × (o.next ≡ l.s % 128) × (o.busy ≡ false)
-  open-known h =
-      let k = x.numbers (ap is_multiple_frame h.state) in (x.state ∙ ap state_number h.state, k.acknowledged, k.next, k.busy_is ∙ h.free)
+  open-known h = grind arith
 
   pub link-awaits : Awaits l → awaits o ≡ true
   link-awaits h1z = grind (arith, open-known)
 
   pub awaits-link : IsFine l → awaits o ≡ true → Awaits l
-  awaits-link (inl is) waits = let state = x.state ∙ ap state_number is in absurd (true≢false (sym waits ∙ (grind (arith, state))))
-  awaits-link (inr (inl is)) waits = inl is
-  awaits-link (inr (inr h)) waits = go (nat_lt l.a l.s) refl
-    where
-      none : l.s ≤ l.a → awaits o ≡ false
-      none few = grind arith
-
-      go : (b : Bool) → nat_lt l.a l.s ≡ b → Awaits l
-      go true e = inr (h, ltb-true l.a l.s e)
-      go false e = absurd (true≢false (sym waits ∙ none (ltb-false l.a l.s e)))
+  awaits-link h waits = grind arith

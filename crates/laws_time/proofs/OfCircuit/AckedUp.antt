@@ -1,14 +1,13 @@
 -- A call on a wire: once SABME is received, the far end is asked for a frame, and UA is received, both ends are up.
 use Rattle.laws_time.proofs.Vocabulary.{All, All-head, All-tail, AwaitingEstablishment, Config, Established, Face, IsCalled, IsInRangeTerms as IsInRange, Link, LinkEndpoint, List, Parts, Service, StationStands, StepAt, TeiAssigned, Terms, Wire, [], after_note, ap, arith, asks-way, at_far, at_near, awaiting, doing, end, first-way, frame_comes, frames_by, fresh_link as fresh, gives-stands}
-use Rattle.laws_time.proofs.Vocabulary.{indicated, inl, inr, length, length-append, map, next, own_link, own_side, received, receives, refl, requests, sabme, sends, sends-ua, spelling, subst, suc, sym, takes, takes-sabme, terms, turned, ua, unheard, wire_doing_all as doing_all, with_link, with_ua_first, with_ua_waiting, zero, ℕ, ◌+◌, ◌∙◌, ◌∷◌, ◌≡◌, ◌≤◌, ◌⊎◌}
-use Rattle.model_link.specs.Events.{frame}
+use Rattle.laws_time.proofs.Vocabulary.{indicated, inl, inr, length, length-append, map, next, own_link, own_side, receives, refl, requests, sabme, sends, sends-ua, spelling, subst, suc, sym, takes, takes-sabme, terms, ua, unheard, wire_doing_all as doing_all, with_link, with_ua_first, with_ua_waiting, zero, ℕ, ◌+◌, ◌∙◌, ◌∷◌, ◌≡◌, ◌≤◌, ◌⊎◌}
 use Rattle.laws_wire.specs.Call.{IsTalk}
 use Rattle.laws_wire.specs.Wire as wire
 use Rattle.laws_wire.specs.Wire.{happens, with_first_of, answered}
 use Rattle.laws_wire.proofs.BothHalf as half
 use Rattle.laws_wire.proofs.Calling.{asked}
 use Rattle.laws_time.proofs.OfCircuit.AckedWire.{own-stands, one_if_any, near_takes, far_takes, first-way as first-taken}
-use Rattle.laws_time.proofs.OfCircuit.AckedCall.{sum_all, near_sends, far_sends, turn, steps-keep}
+use Rattle.laws_time.proofs.OfCircuit.AckedCall.{sum_all, near_sends, far_sends, steps-keep}
 use Rattle.laws_time.proofs.OfCircuit.AckedOn.{Calls, On, UpNow, called-up, up-once, up-on as up-all, call-step, all-called, near-is, far-is}
 
 -- ---- a step with which a frame is received
@@ -21,19 +20,10 @@ far-takes-few k w = grind (arith, takes-few)
 
 -- a step with which the far end receives
 by-receipt : (k : StepAt) (w : Wire) (P : StepAt → Type 0) → far_takes k w ≡ 1 → (1 ≤ length w.near.way → P (at_far receives)) → P k
-by-receipt (at_near act) w P one h = absurd (omega (arith, one))
-by-receipt (at_far receives) w P one h = h (go w.near.way one)
-  where
-    go : (way : List (List ℕ)) → one_if_any way ≡ 1 → 1 ≤ length way
-    go [] one = absurd (omega (arith, one))
-    go (o ∷ os) one = omega arith
-by-receipt (at_far sends) w P one h = absurd (omega (arith, one))
-by-receipt (at_far (requests r)) w P one h = absurd (omega (arith, one))
-by-receipt (at_far other) w P one h = absurd (omega (arith, one))
+by-receipt h w h' one h'' = grind arith
 
 by-near-receipt : (k : StepAt) (w : Wire) (P : StepAt → Type 0) → near_takes k w ≡ 1 → (1 ≤ length w.far.way → P (at_near receives)) → P k
-by-near-receipt (at_near act) w P one h = by-receipt (at_far act) (turned w) (λ k. P (turn k)) one h
-by-near-receipt (at_far act) w P one h = absurd (omega (arith, one))
+by-near-receipt h w h' one h'' = grind arith
 
 any : (way : List (List ℕ)) → 1 ≤ length way → one_if_any way ≡ 1
 any way h1z = grind arith
@@ -73,8 +63,7 @@ module _ (service : Service) (tei : ℕ) (few : tei ≤ 126) (c d : Config) (fac
       let f = sabme t in
       let way = first-way service tei c 0 unheard w.near (end t awaiting (f ∷ [])) f [] refl h.both.near in
       let x = takes service tei 0 unheard d c back w.far (end u fresh []) f h.both.far.stands way.1 in
-      ap (λ way. (own_link service tei (with_first_of way w.far)).state) way.0
-      ∙ ap (λ (l : Link). l.state) (own-stands service tei d 0 (frame_comes (spelling (own_side c) f) w.far) (with_link (received (frame f)) (end u fresh [])) x.stands ∙ takes-sabme u ru t)
+      grind (arith, own_link, with_first_of, own-stands, frame_comes, spelling, own_side, with_link, end, fresh, takes-sabme)
 
   not-idle : (w : Wire) (weight : ℕ) → InCall w weight → (own_link service tei w.far).state ≡ Established → HalfNow w
   not-idle w weight (inl h) is = let e : TeiAssigned ≡ Established = sym (ap (λ (l : Link). l.state) (far-is service tei few c d face back rt ru unheard w (end u fresh []) h.both.far)) ∙ is in absurd (cc e)
@@ -95,8 +84,7 @@ module _ (service : Service) (tei : ℕ) (few : tei ≤ 126) (c d : Config) (fac
       let f = ua h.m.terms in
       let way = first-way service tei d 0 (after_note (indicated service tei)) w.far (with_ua_first h.m) f h.m.way refl h.both.far in
       let x = takes service tei 0 unheard c d face w.near (end t awaiting []) f h.both.near.stands way.1 in
-      ap (λ way. (own_link service tei (with_first_of way w.near)).state) way.0
-      ∙ ap (λ (l : Link). l.state) (own-stands service tei c 0 (frame_comes (spelling (own_side d) f) w.near) (with_link (received (frame f)) (end t awaiting [])) x.stands)
+      grind (arith, own_link, with_first_of, own-stands, frame_comes, spelling, own_side, with_link, end, awaiting)
 
   not-ringing : (w : Wire) → HalfNow w → (own_link service tei w.near).state ≡ Established → BothUp w
   not-ringing w (weight, inl h) is = let e : AwaitingEstablishment ≡ Established = sym (ap (λ (l : Link). l.state) (near-is service tei few c d face back rt ru unheard w (end t awaiting []) h.both.near)) ∙ is in absurd (cc e)

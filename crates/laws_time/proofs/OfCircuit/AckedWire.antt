@@ -1,11 +1,10 @@
 -- Two cards on a wire: how many I-frames were received, and what the frames in transit acknowledge, step by step.
-use Rattle.laws_time.proofs.Vocabulary.{All, All-head, All-tail, Bool, Config, Data, EndStep as Step, Face, FrameEndpoint as Endpoint, IsCarried, Lane, Link, LinkEndpoint, List, More, Parts, Past, Request, Service, StationStands, StepAt, Talk, Wire, [], ap, append-nil, arith, asks-way, at_far, at_near, doing, drop, false, flat_map, frame_comes, frames_by, fresh_link as fresh, gives-stands}
-use Rattle.laws_time.proofs.Vocabulary.{holds-asked, inl, inr, length, length-append, line_of, link_in, map, next, option_map_or, own_link, own_side, parts_of, read_as, received, receives, refl, request, requests, sends, spelling, subst, suc, sym, take, take-length, takes, takes-way, turned, with_link, with_sent, zero, ℕ, ◌++◌, ◌+◌, ◌-◌, ◌∙◌, ◌∷◌, ◌≡◌, ◌≤◌, ◌⊎◌}
-use Rattle.model_link.specs.Events.{frame}
+use Rattle.laws_time.proofs.Vocabulary.{All, All-head, All-tail, Config, Data, EndStep as Step, Face, FrameEndpoint as Endpoint, IsCarried, Link, LinkEndpoint, List, More, Parts, Past, Request, Service, StationStands, StepAt, Talk, Wire, [], ap, append-nil, arith, asks-way, at_far, at_near, doing, drop, false, flat_map, frame_comes, frames_by, fresh_link as fresh, gives-stands}
+use Rattle.laws_time.proofs.Vocabulary.{holds-asked, inl, inr, length, length-append, line_of, link_in, map, next, option_map_or, own_link, own_side, parts_of, read_as, receives, refl, request, requests, sends, spelling, subst, sym, take, take-length, takes, takes-way, turned, with_link, with_sent, ℕ, ◌++◌, ◌+◌, ◌-◌, ◌∙◌, ◌∷◌, ◌≡◌, ◌≤◌, ◌⊎◌}
 use Rattle.laws_wire.specs.Call.{IsTalkOf, IsTalk}
 use Rattle.laws_wire.specs.Wire.{happens, answered, with_first_of}
 use Rattle.laws_wire.proofs.Asking.{with_more, take-front}
-use Rattle.laws_time.proofs.OfCircuit.AckedLinks.{infos, infos-append, lane-counts, Says, Covers, lane-covers, same-number, window, heeds, sent-stays}
+use Rattle.laws_time.proofs.OfCircuit.AckedLinks.{infos, lane-counts, Says, Covers, lane-covers, same-number, window, heeds, sent-stays}
 
 -- ---- how many frames are received with a step
 
@@ -57,34 +56,21 @@ module _ (service : Service) (tei : ℕ) where
       ⊎ ((t ≡ 1) × ((o : List ℕ) × (way ≡ o ∷ way') × (r' ≡ r + infos (read_as c o))))
 
   flow-first : (c : Config) (r r' s : ℕ) (way : List (List ℕ)) → r + infos (parts_in c way) ≡ s → r' + infos (parts_in c (drop 1 way)) ≡ s → Flows c (one_if_any way) r way r' (drop 1 way)
-  flow-first c r r' s [] h g = inl (refl, omega (arith, h, g), ([], refl))
-  flow-first c r r' s (o ∷ os) h g = let sum = infos-append (read_as c o) (parts_in c os) in inr (refl, (o, refl, omega (arith, h, g, sum)))
+  flow-first c r r' s h h' g = grind arith
 
   pub flows : (c : Config) (k : StepAt) → IsTalk service tei k → (w : Wire) → Counted c w → Counted c (doing k w)
       → Flows c (far_takes k w) (own_link service tei w.far).r w.near.way (own_link service tei (doing k w).far).r (doing k w).near.way
-  flows c (at_near (requests r)) is w h g = inl (refl, refl, ([], asks-way r w.near ∙ sym (append-nil w.near.way)))
-  flows c (at_near sends) is w h g = inl (refl, refl, (frames_by (answered next w.near), refl))
-  flows c (at_near receives) is w h g = inl (refl, refl, ([], first-way w.far.way w.near ∙ sym (append-nil w.near.way)))
-  flows c (at_far (requests r)) is w h g = inl (refl, omega (arith, h, g), ([], sym (append-nil w.near.way)))
-  flows c (at_far sends) is w h g = inl (refl, omega (arith, h, g), ([], sym (append-nil w.near.way)))
-  flows c (at_far receives) is w h g = flow-first c (own_link service tei w.far).r (own_link service tei (with_first_of w.near.way w.far)).r (own_link service tei w.near).s w.near.way h g
-  flows c other is w h g = absurd is
+  flows c other is w h g = grind (arith, asks-way, append-nil, frames_by, answered, first-way, flow-first, own_link, with_first_of)
 
   -- Once the first j frames in transit are received, so many I-frames are.
   abbrev pub Comes : Config → ℕ → ℕ → ℕ → List (List ℕ) → Type 0
   Comes c n j r way = (j ≤ length way) × (n ≤ r + infos (parts_in c (take j way)))
 
   comes-same : (c : Config) (n j r r' : ℕ) (way new : List (List ℕ)) → r' ≡ r → Comes c n j r way → Comes c n j r' (way ++ new)
-  comes-same c n j r r' way new same (few, enough) =
-      let long = length-append way new in
-      let front = ap (λ x. infos (parts_in c x)) (take-front way new j few) in
-      (omega (arith, few, long), omega (arith, enough, front, same))
+  comes-same c n j r r' way new same h = grind (arith, length-append, infos, take-front)
 
   comes-first : (c : Config) (n j r : ℕ) (o : List ℕ) (way : List (List ℕ)) → Comes c n j r (o ∷ way) → Comes c n (j - 1) (r + infos (read_as c o)) way
-  comes-first c n zero r o way (few, enough) = (omega arith, omega (arith, enough))
-  comes-first c n (suc i) r o way (few, enough) =
-      let sum = infos-append (read_as c o) (parts_in c (take i way)) in
-      subst (λ j. Comes c n j (r + infos (read_as c o)) way) (let e : i ≡ suc i - 1 = omega arith in e) (omega (arith, few), omega (arith, enough, sum))
+  comes-first c n h r o way h' = grind arith
 
   pub comes-on : (c : Config) (n t j r : ℕ) (way : List (List ℕ)) (r' : ℕ) (way' : List (List ℕ)) → Flows c t r way r' way' → Comes c n j r way → Comes c n (j - t) r' way'
   comes-on c n t j r way r' way' (inl (none, same, (new, is))) h =
@@ -104,26 +90,16 @@ module _ (service : Service) (tei : ℕ) where
   Acks d n hi j a back = (j ≤ length back) × Covers n hi a (parts_in d (take j back))
 
   acks-same : (d : Config) (n hi j a a' : ℕ) (back new : List (List ℕ)) → a' ≡ a → Acks d n hi j a back → Acks d n hi j a' (back ++ new)
-  acks-same d n hi j a a' back new same (few, covers) =
-      let long = length-append back new in
-      (omega (arith, few, long), subst (λ x. Covers n hi x (parts_in d (take j (back ++ new)))) (sym same) (subst (λ x. Covers n hi a (parts_in d x)) (sym (take-front back new j few)) covers))
+  acks-same d n hi j a a' back new same h = grind (arith, length-append, take, take-front)
 
   acks-first : (d : Config) (n hi j a s : ℕ) (o : List ℕ) (back : List (List ℕ)) (f : Parts) (v : ℕ) → s ≤ a + 127 → hi ≤ s → read_as d o ≡ f ∷ [] → a ≤ v → v ≤ s → Says v f
       → Acks d n hi j a (o ∷ back) → Acks d n hi (j - 1) v back
-  acks-first d n hi zero a s o back f v near high read low up says (few, covers) = (omega arith, omega (arith, covers, low))
-  acks-first d n hi (suc i) a s o back f v near high read low up says (few, covers) =
-      subst (λ j. Acks d n hi j v back) (let e : i ≡ suc i - 1 = omega arith in e) (omega (arith, few), go (subst (λ xs. Covers n hi a (xs ++ parts_in d (take i back))) read covers))
-    where
-      go : Covers n hi a (f ∷ parts_in d (take i back)) → Covers n hi v (parts_in d (take i back))
-      go (w, lo, most, said, rest) =
-          subst (λ x. Covers n hi x (parts_in d (take i back))) (same-number a s w v lo (omega (arith, most, high)) low up near (sym said ∙ says)) rest
+  acks-first d n hi h a s o back f v near high read low up says h' = grind (arith, take, same-number)
 
   pub acks-on : (d : Config) (n hi t j a s : ℕ) (back : List (List ℕ)) (a' : ℕ) (back' : List (List ℕ)) → s ≤ a + 127 → hi ≤ s → Heeds d t a s back a' back' → Acks d n hi j a back → Acks d n hi (j - t) a' back'
   acks-on d n hi t j a s back a' back' near high (inl (none, same, (new, is))) h =
       subst (λ x. Acks d n hi (j - t) a' x) (sym is) (subst (λ k. Acks d n hi k a' (back ++ new)) (let e : j ≡ j - t = omega (arith, none) in e) (acks-same d n hi j a a' back new same h))
-  acks-on d n hi t j a s back a' back' near high (inr (one, (o, f, v, is, read, low, up, says, same))) h =
-      subst (λ k. Acks d n hi (j - k) a' back') (sym one)
-      (subst (λ x. Acks d n hi (j - 1) x back') (sym same) (acks-first d n hi j a s o back' f v near high read low up says (subst (Acks d n hi j a) is h)))
+  acks-on d n hi t j a s back a' back' near high (inr (one, (o, f, v, is, read, low, up, says, same))) h = grind (arith, acks-first)
 
   -- ---- two ends that are up
 
@@ -135,10 +111,7 @@ module _ (service : Service) (tei : ℕ) where
     own-far = own-stands d q w.far m h.far.stands
 
     pub counted-up : Counted c w
-    counted-up =
-        let there = own-far in let ways = ap (parts_in c) h.near.stands.way ∙ parts-are c n.way h.near.stands.carried in
-        (λ i. (there i).r + infos (ways i)) ∙ lane-counts n.terms n.link.contents m.link.r n.link.s m.link.a n.link.r n.link.pending n.way h.pair.there.lane
-        ∙ sym (ap (λ (l : Link). l.s) own-near)
+    counted-up = grind (arith, own-far, parts-are, infos, lane-counts, own-near)
 
     pub window-near : (own_link service tei w.near).s ≤ (own_link service tei w.near).a + 127
     window-near = subst (λ (l : Link). l.s ≤ l.a + 127) (sym own-near) (window n h.pair.near)
@@ -162,19 +135,7 @@ module _ (service : Service) (tei : ℕ) where
     -- so all that it received is acknowledged by what is in transit
     pub acks-all : (few : ℕ) → (own_link service tei w.far).pending ≡ false → few ≤ (own_link service tei w.far).r
         → Acks d few (own_link service tei w.far).r (length w.far.way) (own_link service tei w.near).a w.far.way
-    acks-all few none enough =
-        let owed : m.link.pending ≡ false = sym (ap (λ (l : Link). l.pending) own-far) ∙ none in
-        let r = ap (λ (l : Link). l.r) own-far in
-        let ways = ap (parts_in d) (take-length w.far.way ∙ h.far.stands.way) ∙ parts-are d m.way h.far.stands.carried in
-        let covers = lane-covers few m.terms m.link.contents n.link.r m.link.s n.link.a m.link.r m.way (omega (arith, enough, r))
-        (subst (λ b. Laned b) owed h.pair.back.lane) in (
-          omega arith,
-          subst (Covers few (own_link service tei w.far).r (own_link service tei w.near).a) (sym ways)
-              (subst (λ x. Covers few x (own_link service tei w.near).a m.way) (sym r) (subst (λ (l : Link). Covers few m.link.r l.a m.way) (sym own-near) covers)),
-        )
-      where
-        Laned : Bool → Type 0
-        Laned b = Lane m.terms m.link.contents n.link.r m.link.s n.link.a m.link.r b m.way
+    acks-all few none enough = grind (arith, own-far, take-length, parts-are, lane-covers, own_link, own-near)
 
     asked-data : (octets : List ℕ) → (own_link service tei (happens (request (Data service tei octets)) w.near)).a ≡ (own_link service tei w.near).a
     asked-data octets = go (holds-asked service tei p first c w.near n octets h.near)
@@ -200,20 +161,7 @@ module _ (service : Service) (tei : ℕ) where
         let x = takes service tei p first c d face w.near n f h.near.stands carried in
         let y = heeds m n h.pair.far h.pair.near h.pair.back h.pair.there f fs e in
         let low = y.low in let up = y.up in let a = ap (λ (l : Link). l.a) own-near in let s = ap (λ (l : Link). l.s) own-near in
-        inr (
-          refl,
-          (
-            spelling (own_side d) f,
-            f,
-            y.v,
-            refl,
-            read-one d f carried,
-            omega (arith, low, a),
-            omega (arith, up, s),
-            y.says,
-            ap (λ (l : Link). l.a) (own-stands c p (frame_comes (spelling (own_side d) f) w.near) (with_link (received (frame f)) n) x.stands) ∙ y.is,
-          ),
-        )
+        grind (arith, spelling, own_side, read-one, own-stands, frame_comes, with_link)
 
     receives-so : Received w.far.way
     receives-so = subst Received (sym h.far.stands.way) (go m.way refl)

@@ -1,6 +1,6 @@
 -- What happens at an end of the clocked circuit, one thing at a time: layer 3 asks, and a timer falls due.
 use Rattle.laws_time.proofs.Vocabulary.{All, AreOctets, Config, Expiry, IsInRange, IsOfLink, Lengths, Link, List, Observed, OctetEndpoint, Request, Service, Some, T200, T203, TimedEndpoint, Timer, [], aim_of_request, and-false, answer as ports_answer, answered, ap, append-nil, arith, asked-way, asks, at_requested, comes_to, contents_given, due, fall_due, falls, false, fold}
-use Rattle.laws_time.proofs.Vocabulary.{fresh_link as fresh, happens, is_anew, is_of, is_same, is_time, is_waiting, length, line_at, link_in, link_of, link_runs, meant_all, octet_orders, option_map_or, place_in, port-after, port_of, ports_fresh, refl, runs, subst, sym, true, true≢false, view_behind, view_of, within-ports, without_first, ℕ, ◌&&◌, ◌*◌, ◌++◌, ◌+◌, ◌==◌, ◌∙◌, ◌≡◌, ◌≤◌}
+use Rattle.laws_time.proofs.Vocabulary.{fresh_link as fresh, happens, is_anew, is_of, is_same, is_time, is_waiting, length, line_at, link_in, link_of, link_runs, meant_all, octet_orders, option_map_or, place_in, port-after, port_of, ports_fresh, refl, runs, subst, sym, true, true≢false, view_behind, view_of, within-ports, without_first, ℕ, ◌*◌, ◌++◌, ◌+◌, ◌∙◌, ◌≡◌, ◌≤◌}
 use Rattle.lapd_frame.specs.declared.timers.Timer.TheVariants as timers
 use Rattle.model_link.specs.Events as link
 use Rattle.model_line.specs.Event as line
@@ -45,22 +45,14 @@ module _ (c : Config) (service : Service) (tei place : ℕ) (ranged : IsInRange 
   goes-none S M a h = record { S' = S; later = omega arith; ok = h; port = refl; way = refl; now = refl }
 
   pub goes-both : (S M : ℕ) (a u v : TimedEndpoint) (g : Goes S M a u) → Goes g.S' M u v → Goes S M a v
-  goes-both S M a u v g k = record {
-    S' = k.S';
-    later = let first = g.later in let then = k.later in omega (arith, first, then);
-    ok = k.ok;
-    port = k.port ∙ g.port;
-    way = k.way ∙ g.way;
-    now = k.now ∙ g.now;
-  }
+  goes-both h h' a u v g k = grind arith
 
   -- So much was given when this moment came.
   abbrev pub IsSoon : TimedEndpoint → Type 0
   IsSoon a = length (port_of a.at).given ≤ (a.clock.now + 1) * rate
 
   pub soon-then : (S M : ℕ) (a u : TimedEndpoint) → Goes S M a u → IsSoon a → IsSoon u
-  soon-then S M a u g soon =
-      subst (λ n. length (port_of u.at).given ≤ (n + 1) * rate) (sym g.now) (subst (λ (p : port.Port). length p.given ≤ (a.clock.now + 1) * rate) (sym g.port) soon)
+  soon-then h h' a u g soon = grind arith
 
   -- Layer 3 asks.
   module _ (a : TimedEndpoint) (S M : ℕ) (h : End S M a) (soon : IsSoon a) where
@@ -147,8 +139,7 @@ module _ (c : Config) (service : Service) (tei place : ℕ) (ranged : IsInRange 
     t203-then same =
         let its = link.expired T203 in
         let mv = ends-expired c service tei place ranged a.at h.but.ends (timers.T203 service tei) T203 (λ l. refl) in
-        let other : is_of a.at.line (timers.T200 service tei) x ≡ false =
-        ap (λ t. (x.line == a.at.line) && is_same t (timers.T200 service tei)) same ∙ and-false (x.line == a.at.line) in
+        let other : is_of a.at.line (timers.T200 service tei) x ≡ false = grind (arith, is_same, and-false) in
         moved-on c service tei place ranged lengths rate (gone a) (port.expiry (timers.T203 service tei)) S M M but (line.expiry (timers.T203 service tei)) refl (λ e. e ≡ its) mv
         (λ e is. subst IsOrdinary (sym (mv.by e is)) tt)
         (λ e is asks_it. absurd (true≢false (sym asks_it ∙ ap is_asked (mv.by e is))))

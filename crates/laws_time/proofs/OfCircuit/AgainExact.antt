@@ -1,6 +1,6 @@
 -- After noise an end hears again what the other gave: with each octet just that.
 use Rattle.laws_time.proofs.Vocabulary.{All, All-cons, All-head, All-nil, All-tail, Bool, Item, List, Option, Port, Some, [], after_flag, ap, append_assoc, append_cancel_left, append_cancel_right, arith, bits, bits-append, cases_lt, flag, flat_map, flat_map-append, frame, frame_text, gained, heard_in, heard_until, heard_until-onto, heard_with, idle, inl, inr, item_octets, item_text}
-use Rattle.laws_time.proofs.Vocabulary.{left_of, length, length-append, length-bits, longest, longest_text, option_to_list, refl, replicate, reverse_aux, reverse_aux-append, reverse_aux-onto, room_for, slice_get, subst, suc, sym, zero, ℕ, ◌*◌, ◌++◌, ◌+◌, ◌<◌, ◌∙◌, ◌∷◌, ◌≡◌, ◌≤◌, ◌⊎◌}
+use Rattle.laws_time.proofs.Vocabulary.{left_of, length, length-append, length-bits, longest, longest_text, option_to_list, refl, replicate, reverse_aux, reverse_aux-append, reverse_aux-onto, room_for, slice_get, suc, sym, zero, ℕ, ◌*◌, ◌++◌, ◌+◌, ◌<◌, ◌∙◌, ◌∷◌, ◌≡◌, ◌≤◌, ◌⊎◌}
 use Rattle.model_bits.specs.Stream as stream
 use Rattle.model_bits.proofs.RoundTripPlaces.{hears}
 use Rattle.laws_time.proofs.OfCircuit.AnsweredBits.{longer-begins}
@@ -31,20 +31,13 @@ module _ (n201 : ℕ) (S : List ℕ) (value : ℕ) (u part : List Bool) (stands 
   heard-then P = grind (arith, bits-append, at-place, reverse_aux-append, heard_until-onto)
 
   gains : (P : List ℕ) → option_to_list (gained n201 (P ++ S) value) ≡ hears (room_for n201) (here P) (bits (value ∷ []))
-  gains P =
-      let H = heard_until (room_for n201) (here P) in
-      append_cancel_left H (option_to_list (gained n201 (P ++ S) value)) (hears (room_for n201) (here P) (bits (value ∷ [])))
-      (ap (λ h. h ++ option_to_list (gained n201 (P ++ S) value)) (sym (heard-so P)) ∙ sym (heard_with n201 (P ++ S) value) ∙ heard-then P)
+  gains h = grind (arith, heard_until, room_for, append_cancel_left, option_to_list, gained, hears, bits, heard-so, heard_with, heard-then)
 
   onto : (P : List ℕ) → here P ≡ reverse_aux part [] ++ place P
   onto P = reverse_aux-onto part [] (place P)
 
   pub same-gained : (P Q : List ℕ) → gained n201 (P ++ S) value ≡ gained n201 (Q ++ S) value
-  same-gained P Q =
-      let room = room_for n201 in
-      let y = bits (value ∷ []) in
-      one-of-two (gained n201 (P ++ S) value) (gained n201 (Q ++ S) value)
-      (gains P ∙ ap (λ p. hears room p y) (onto P) ∙ hears-same room y (reverse_aux part []) (reverse_aux (bits P ++ u) []) (reverse_aux (bits Q ++ u) []) ∙ ap (λ p. hears room p y) (sym (onto Q)) ∙ sym (gains Q))
+  same-gained h h' = grind (arith, room_for, bits, one-of-two, gained, gains, hears, onto, hears-same, reverse_aux)
 
 -- ---- in so many bits of a line a flag stands
 
@@ -75,16 +68,10 @@ module _ (low most : ℕ) (i : Item) (items : List Item) (x : List Bool) (few : 
   more = flat_map item_text items
 
   all : x ++ (flag ++ (item_text i ++ flat_map item_text items)) ≡ (x ++ (flag ++ (its-text i).0)) ++ (flag ++ flat_map item_text items)
-  all =
-      ap (λ b. x ++ (flag ++ (b ++ more))) (its-text i).1 ∙ ap (λ b. x ++ (flag ++ b)) (append_assoc ((its-text i).0) flag more)
-      ∙ sym (ap (λ b. x ++ b) (append_assoc flag ((its-text i).0) (flag ++ more))) ∙ sym (append_assoc x (flag ++ ((its-text i).0)) (flag ++ more))
+  all = grind (arith, flag, its-text, append_assoc)
 
   flag-on : (length x < low) ⊎ (low ≤ length x) → (length next < low + most → low ≤ length next + length more → FlagIn low most next items) → FlagIn low most x (i ∷ items)
-  flag-on (inr late) rest = flag-here low most (i ∷ items) x near late
-  flag-on (inl less) rest =
-      let one = All-head (λ item. length (item_text item) ≤ most) i items few in
-      let a = length-append x (flag ++ ((its-text i).0)) in let b = length-append flag ((its-text i).0) in let c = ap length (its-text i).1 ∙ length-append ((its-text i).0) flag in let d = length-append (item_text i) more in
-      subst (FlagAfter low most) (sym all) (rest (omega (arith, a, b, c, one, less)) (omega (arith, a, b, c, d, enough)))
+  flag-on h rest = grind (arith, flag-here, length, item_text, length-append, flag, its-text, all)
 
 flag-after : (low most : ℕ) (items : List Item) (x : List Bool) → All (λ item. length (item_text item) ≤ most) items → length x < low + most → low ≤ length x + length (flat_map item_text items)
     → FlagAfter low most (x ++ (flag ++ flat_map item_text items))
@@ -127,16 +114,10 @@ module _ (n201 m way k : ℕ) (p : Port) (value : ℕ) (more : List ℕ) (q : Po
   tail = bits (value ∷ more) ++ left_of p
 
   text-is : bits (all_sent way p) ++ left_of p ≡ [] ++ (flag ++ flat_map item_text all_items)
-  text-is =
-      ap (λ b. b ++ left_of p) (bits-append (replicate way 0x7E) p.given ∙ ap (λ b. b ++ bits p.given) (bits-flags way)) ∙ append_assoc F (bits p.given) (left_of p)
-      ∙ ap (λ b. F ++ b) (sym h.sound.text.text) ∙ flags-pass way (flat_map item_text p.items) ∙ ap (λ b. flag ++ b) (sym (flat_map-append item_text (replicate way idle) p.items))
+  text-is = grind (arith, left_of, bits-append, replicate, bits, bits-flags, append_assoc, flags-pass, flat_map, item_text, flag, flat_map-append)
 
   came-is : bits (all_sent way p) ++ left_of p ≡ bits c.before ++ (bits c.as_sent ++ tail)
-  came-is =
-      ap (λ os. bits os ++ left_of p) (c.sent ∙ append_assoc c.before c.as_sent (value ∷ more))
-      ∙ ap (λ b. b ++ left_of p) (bits-append c.before (c.as_sent ++ value ∷ more) ∙ ap (λ b. bits c.before ++ b) (bits-append c.as_sent (value ∷ more)))
-      ∙ append_assoc (bits c.before) (bits c.as_sent ++ bits (value ∷ more)) (left_of p)
-      ∙ ap (λ b. bits c.before ++ b) (append_assoc (bits c.as_sent) (bits (value ∷ more)) (left_of p))
+  came-is = grind (arith, bits, left_of, append_assoc, bits-append)
 
   long-enough : 8 ≤ longest_text m
   long-enough = omega arith
@@ -181,12 +162,10 @@ module _ (n201 m way k : ℕ) (p : Port) (value : ℕ) (more : List ℕ) (q : Po
   -- And all that stood there is heard.
   pub heard-so-too : (before : List ℕ) → p.given ≡ before ++ value ∷ more → gained n201 q.received value ≡ gained n201 before value
   heard-so-too before is =
-      let given : (replicate way 0x7E ++ before) ++ value ∷ more ≡ (c.before ++ c.as_sent) ++ value ∷ more =
-      append_assoc (replicate way 0x7E) before (value ∷ more) ∙ ap (λ g. replicate way 0x7E ++ g) (sym is) ∙ all-given in
+      let given : (replicate way 0x7E ++ before) ++ value ∷ more ≡ (c.before ++ c.as_sent) ++ value ∷ more = grind (arith, append_assoc, replicate, all-given) in
       let same = append_cancel_right (replicate way 0x7E ++ before) (c.before ++ c.as_sent) (value ∷ more) given in
       let text = sym h.sound.text.text in
       let now = before ++ value ∷ [] in
       let first = flags-before n201 way before (begins-so n201 p.given before (value ∷ more) (left_of p) (flat_map item_text p.items) text is) in
       let then = flags-before n201 way now (begins-so n201 p.given now more (left_of p) (flat_map item_text p.items) text (is ∙ sym (append_assoc before (value ∷ []) more))) in
-      gained-as-sent ∙ ap (λ os. gained n201 os value) (sym same)
-      ∙ (λ i. slice_get ((ap (heard_in n201) (append_assoc (replicate way 0x7E) before (value ∷ [])) ∙ then) i) (length (first i)))
+      grind (arith, gained-as-sent, gained, slice_get, heard_in, append_assoc, replicate, length)

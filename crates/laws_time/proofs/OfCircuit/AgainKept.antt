@@ -42,10 +42,7 @@ module _ (n201 way k : ℕ) (s other u : TimedEndpoint) (noise : Option ℕ) (no
 module _ (l : Line) (fit : Begins l) where
   exact-now : (k n : ℕ) (p : Port) (transit : List ℕ) (q : Port) (c : Comes l.way k p transit q) → length q.received ≡ n → length c.before + length c.as_sent ≡ n → (k + (longest l.near.n201 + 1) ≤ n) ⊎ (k ≡ 0)
       → IsExact l.way k l.near.n201 p transit q c
-  exact-now k n p transit q c received many (inl long) = inl (omega (arith, many, long))
-  exact-now k n p transit q c received many (inr zero) =
-      let few = c.few in let all = ap length c.received ∙ length-append c.noisy c.as_sent in
-      inr (c.received ∙ ap (λ b. b ++ c.as_sent) (nil_from_length c.noisy (omega (arith, few, all, received, many, zero)) ∙ sym (nil_from_length c.before (omega (arith, few, zero)))))
+  exact-now k n p transit q c received many h = grind (arith, length, length-append, nil_from_length)
 
   pub again : (k : ℕ) (bs : List Beat) → All (IsTalk l) bs → All IsClean bs → (w : Clocked) → Since l fit k w → (k + (longest l.near.n201 + 1) ≤ w.beats) ⊎ (k ≡ 0) → AreClear l bs w × AreKept of_whole l bs w
   unfolding AreClear AreKept

@@ -52,15 +52,7 @@ pub grown-none : (p : Port) → Grown 0 p p
 grown-none p = record { new = []; items = sym (append-nil p.items); more = []; given = sym (append-nil p.given); long = refl; had = []; received = sym (append-nil p.received) }
 
 pub grown-both : (n k : ℕ) (p q r : Port) → Grown n p q → Grown k q r → Grown (n + k) p r
-grown-both n k p q r g h = record {
-  new = g.new ++ h.new;
-  items = h.items ∙ ap (λ is. is ++ h.new) g.items ∙ append_assoc p.items g.new h.new;
-  more = g.more ++ h.more;
-  given = h.given ∙ ap (λ os. os ++ h.more) g.given ∙ append_assoc p.given g.more h.more;
-  long = length-append g.more h.more ∙ (λ i. g.long i + h.long i);
-  had = g.had ++ h.had;
-  received = h.received ∙ ap (λ os. os ++ h.had) g.received ∙ append_assoc p.received g.had h.had;
-}
+grown-both n k p q r g h = grind (arith, append_assoc, length-append)
 
 item-with : (o : Option line.Answer) (p : Port) → (new : List Item) × ((with_octet (with_item o p)).items ≡ p.items ++ new)
 item-with None p = ([], sym (append-nil p.items))
@@ -102,15 +94,7 @@ beaten-end c ranged p s ran same way q is =
     let g = pull-sends s s refl refl (within-ports c ranged s ran) in
     let i = pull-items c ranged s ran in
     let h = hear-port way x (goes-on c s port.pull tt ran) in
-    record {
-      new = i.0;
-      items = ap (λ (p : Port). p.items) (is ∙ h.1) ∙ i.1 ∙ ap (λ (p : Port). p.items ++ i.0) same;
-      more = g.value ∷ [];
-      given = ap (λ (p : Port). p.given) (is ∙ h.1) ∙ g.given ∙ ap (λ (p : Port). p.given ++ g.value ∷ []) same;
-      long = refl;
-      had = h.0;
-      received = ap (λ (p : Port). p.received) (is ∙ h.1) ∙ ap (λ r. r ++ h.0) (g.received ∙ ap (λ (p : Port). p.received) same);
-    }
+    grind arith
   where
     hear-port : (way : List ℕ) (x : OctetEndpoint) → Ran c x → (had : List ℕ) × (port_of (with_first_of way x) ≡ record (port_of x) { received = (port_of x).received ++ had })
     hear-port [] x ran = ([], λ i. record (port_of x) { received = sym (append-nil (port_of x).received) i })
@@ -161,15 +145,7 @@ module _ (c : Config) (ranged : IsInRange c) (service : Service) (tei way n : �
   grown-then =
       let x = its-sent in
       let i = pull-items c ranged a.at q.ran in
-      record {
-        new = i.0;
-        items = ap (λ (p : Port). p.items) comes.port ∙ i.1 ∙ ap (λ (p : Port). p.items ++ i.0) q.port;
-        more = x.value ∷ [];
-        given = ap (λ (p : Port). p.given) comes.port ∙ x.given;
-        long = refl;
-        had = got ∷ [];
-        received = ap (λ (p : Port). p.received) comes.port ∙ ap (λ r. r ++ got ∷ []) x.received;
-      }
+      grind arith
 
 -- ---- both ends
 
@@ -240,10 +216,7 @@ module _ (l : Line) (fit : Begins l) where
       let rest = grown-all bs (All-tail (IsTalk l) b bs talk) v one.both in
       let n = length bs in
       let more : 1 + n ≡ suc n = omega arith in
-      record {
-        near = subst (λ k. Grown k (port_of w.near.at) (port_of u.near.at)) more (grown-both 1 n (port_of w.near.at) (port_of v.near.at) (port_of u.near.at) one.near_grown rest.near);
-        far = subst (λ k. Grown k (port_of w.far.at) (port_of u.far.at)) more (grown-both 1 n (port_of w.far.at) (port_of v.far.at) (port_of u.far.at) one.far_grown rest.far);
-      }
+      grind (arith, port_of, grown-both)
 
   -- As it begins.
   begins-at : (c : Config) (ranged : IsInRange c) (number : ℕ) (within : number < c.lines) (lengths : Lengths) (in_range : Rattle.lapd_clock.specs.Timer.AreInRange lengths)

@@ -73,16 +73,10 @@ module _ (n201 way k m : ℕ) (v w u : Port) (transit received : List ℕ) (q : 
   text-u = ap line_text items_u ∙ ap (λ b. flag ++ b) (flat_map-append item_text w.items later) ∙ ap (λ b. b ++ M) text-w
 
   sent-is : bits (all_sent way u) ++ left_of u ≡ (first ++ z.0) ++ ((flag ++ N) ++ M)
-  sent-is =
-      ap (λ b. b ++ left_of u) (bits-append (replicate way 0x7E) u.given) ∙ append_assoc first (bits u.given) (left_of u)
-      ∙ ap (λ b. first ++ b) (sym text_u ∙ text-u ∙ append_assoc z.0 (flag ++ N) M) ∙ sym (append_assoc first z.0 ((flag ++ N) ++ M))
+  sent-is = grind (arith, left_of, bits-append, replicate, append_assoc, bits, text-u, z, flag)
 
   came-is : bits (all_sent way u) ++ left_of u ≡ bits c.before ++ (bits c.as_sent ++ rest)
-  came-is =
-      ap (λ os. bits os ++ left_of u) (c.sent ∙ append_assoc c.before c.as_sent transit)
-      ∙ ap (λ b. b ++ left_of u) (bits-append c.before (c.as_sent ++ transit) ∙ ap (λ b. bits c.before ++ b) (bits-append c.as_sent transit))
-      ∙ append_assoc (bits c.before) (bits c.as_sent ++ bits transit) (left_of u)
-      ∙ ap (λ b. bits c.before ++ b) (append_assoc (bits c.as_sent) (bits transit) (left_of u))
+  came-is = grind (arith, bits, left_of, append_assoc, bits-append)
 
   -- the flag comes so late
   v-long : 8 * (k + 1) ≤ length z.0 + 8
@@ -111,15 +105,10 @@ module _ (n201 way k m : ℕ) (v w u : Port) (transit received : List ℕ) (q : 
   past = reverse_aux (bits c.noisy ++ x.0) []
 
   came : bits q.received ≡ (bits c.noisy ++ x.0) ++ (flag ++ (N ++ part.0))
-  came =
-      ap bits c.received ∙ bits-append c.noisy c.as_sent ∙ ap (λ b. bits c.noisy ++ b) (part.1 ∙ append_assoc x.0 (flag ++ N) part.0)
-      ∙ sym (append_assoc (bits c.noisy) x.0 ((flag ++ N) ++ part.0)) ∙ ap (λ b. (bits c.noisy ++ x.0) ++ b) (append_assoc flag N part.0)
+  came = grind (arith, bits, bits-append, part, append_assoc, x, flag)
 
   heard-all : heard_in n201 q.received ≡ heard_until (room_for n201) (after_flag past) ++ hears (room_for n201) (after_flag past) (N ++ part.0)
-  heard-all =
-      ap (λ b. heard_until (room_for n201) (reverse_aux b [])) came
-      ∙ ap (heard_until (room_for n201)) (reverse_aux-append (bits c.noisy ++ x.0) (flag ++ (N ++ part.0)) [] ∙ reverse_aux-append flag (N ++ part.0) past)
-      ∙ heard_until-onto (room_for n201) (N ++ part.0) (after_flag past)
+  heard-all = grind (arith, heard_until, room_for, reverse_aux, came, reverse_aux-append, bits, x, flag, part, heard_until-onto, after_flag)
 
   its : AreHeardWhole n201 new
   its = whole-right n201 v.items new (subst (AreHeardWhole n201) items (whole-left n201 w.items later (subst (AreHeardWhole n201) items_u whole)))

@@ -73,8 +73,7 @@ module _ (l : Line) (fit : IsFit l) where
         let h = y.pair.far_ok.but.ends in
         let text = text-low l.far l.service l.tei 0 fit.call.far.0 w.far.at h in
         let given = y.pair.far_counts.given in
-        due-soon (is_of x.answering l.far) start (answered_by l fit n x start) l.way w.beats (port_of w.far.at) (ring l.far l.service l.tei 0 fit.call.far.0 h.its) (omega (arith, text, given))
-        (from-here l.far l.service l.tei fit.call.far.0 x.answering start (answered_by l fit n x start) l.way w.beats w.far.at h due)
+        grind (arith, due-soon, is_of, answered_by, port_of, ring, from-here)
 
   pub same-longest : longest_text l.near.n201 / 8 ≡ longest_text l.far.n201 / 8
   same-longest = ap (λ n. longest_text n / 8) fit.call.opposite.1

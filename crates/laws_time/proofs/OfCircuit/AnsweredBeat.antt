@@ -3,7 +3,7 @@ use Rattle.laws_time.proofs.Vocabulary.{Bool, Config, Control, IsInRange, Length
 use Rattle.model_link.specs.Machine as links
 use Rattle.laws_time.proofs.OfCircuit.AnsweredDue.{Due}
 use Rattle.laws_time.proofs.OfCircuit.AnsweredEnds.{DueAt, due-moved, frame-put, text-low}
-use Rattle.laws_time.proofs.OfCircuit.AnsweredRows.{Exchange, IsOwnEvent}
+use Rattle.laws_time.proofs.OfCircuit.AnsweredRows.{Exchange}
 use Rattle.laws_time.proofs.OfCircuit.AnsweredWalk.{IsKept, IsCalm}
 use Rattle.laws_time.proofs.OfCircuit.Open.{ring, half, IsOrdinary}
 use Rattle.laws_time.proofs.OfCircuit.Standing.{Ends, Moved}
@@ -22,11 +22,7 @@ module _ (c : Config) (service : Service) (tei : ℕ) (ranged : IsInRange c) (ki
 
 module _ (c : Config) (service : Service) (tei : ℕ) (ranged : IsInRange c) (lengths : Lengths) (rate : ℕ) where
   calm-ordinary : (e : LinkEvent) (l : Link) → IsCalm c service tei ranged lengths rate e l → IsOrdinary e
-  calm-ordinary e l calm = by calm.0
-    where
-      by : IsOwnEvent e → IsOrdinary e
-      by (inl x) = subst IsOrdinary (sym x.1) tt
-      by (inr x) = subst IsOrdinary (sym x.1) tt
+  calm-ordinary e l calm = grind arith
 
   module _ (kind : Bool → Control → Bool) (low most way heard : ℕ) where
     pub due-kept : IsKept c service tei ranged lengths rate (λ p x. Due (is_of kind c) low most way heard p (ring c service tei 0 ranged x))

@@ -1,5 +1,5 @@
 -- A frame that stands whole after a flag is heard with its closing flag, whatever came before.
-use Rattle.laws_time.proofs.Vocabulary.{front-none, Bool, IsHeardWhole, List, None, Option, Some, [], after_flag, ap, append-nil, append_assoc, append_cancel_left, arith, bits, bits-append, false, flag, frame, frame_text, gained, heard_in, heard_until, heard_until-onto, heard_with, hears-append, hears_items, length, length-append, option_to_list, refl, reverse_aux, reverse_aux-append, room_for}
+use Rattle.laws_time.proofs.Vocabulary.{front-none, Bool, IsHeardWhole, List, Option, Some, [], after_flag, ap, append-nil, append_assoc, append_cancel_left, arith, bits, bits-append, false, flag, frame, frame_text, gained, heard_in, heard_until, heard_until-onto, heard_with, hears-append, hears_items, length, length-append, option_to_list, refl, reverse_aux, reverse_aux-append, room_for}
 use Rattle.laws_time.proofs.Vocabulary.{suc, sym}
 use Rattle.laws_time.proofs.Vocabulary.{true, ℕ, ◌++◌, ◌<◌, ◌∙◌, ◌∷◌, ◌≡◌, ◌≢◌, ◌≤◌}
 use Rattle.model_bits.specs.Stream as stream
@@ -26,8 +26,7 @@ no_six : (n : ℕ) → n ≤ 5 → n ≢ 6
 no_six n few six = omega (arith, few, six)
 
 ends_nothing_with : (n : ℕ) (text : List Bool) → n ≤ 5 → NoSix n text → EndsNothing n (text ++ flag_front)
-ends_nothing_with n [] few p =
-    (no_six n few, (no_six 0 (omega arith), (no_six 1 (omega arith), (no_six 2 (omega arith), (no_six 3 (omega arith), (no_six 4 (omega arith), (no_six 5 (omega arith), tt)))))))
+ends_nothing_with n [] few p = grind (arith, no_six)
 ends_nothing_with n (false ∷ text) few p = (no_six n few, ends_nothing_with 0 text (omega arith) p)
 ends_nothing_with n (true ∷ text) few p = (no_six n few, ends_nothing_with (suc n) text (omega (arith, p.0)) p.1)
 
@@ -55,8 +54,7 @@ module _ (n201 : ℕ) (o : List ℕ) (whole : IsHeardWhole n201 o) where
       ∙ hears_items n201 past (frame o ∷ []) 0 (omega arith) (whole, tt)
 
   some-gained : (H E : List stream.Event) (g : Option stream.Event) → H ++ (stream.frame o ∷ E) ≡ H ++ option_to_list g → g ≡ Some (stream.frame o)
-  some-gained H E None is = absurd (cc (append_cancel_left H (stream.frame o ∷ E) [] is))
-  some-gained H E (Some e) is = ap (λ e. Some e) (cc (append_cancel_left H (stream.frame o ∷ E) (e ∷ []) is))
+  some-gained h h' h'' is = grind (arith, append_cancel_left)
 
   -- These octets came, of which the last ones end in a flag and a part of the frame; and the rest of it comes.
   module _ (P X : List ℕ) (value : ℕ) (u part rest extra : List Bool) (stands : bits X ≡ u ++ (flag ++ part)) (text : frame_text o ++ flag ≡ part ++ rest)
@@ -81,10 +79,7 @@ module _ (n201 : ℕ) (o : List ℕ) (whole : IsHeardWhole n201 o) where
         ∙ append-nil (heard_until (room_for n201) place)
 
     comes-then : bits ((P ++ X) ++ value ∷ []) ≡ (bits P ++ u) ++ (flag ++ ((frame_text o ++ flag) ++ extra))
-    comes-then =
-        bits-append (P ++ X) (value ∷ []) ∙ ap (λ b. b ++ bits (value ∷ [])) came ∙ ap (λ b. ((bits P ++ u) ++ (flag ++ part)) ++ b) comes
-        ∙ append_assoc (bits P ++ u) (flag ++ part) (rest ++ extra)
-        ∙ ap (λ b. (bits P ++ u) ++ (flag ++ b)) (sym (append_assoc part rest extra) ∙ ap (λ b. b ++ extra) (sym text))
+    comes-then = grind (arith, bits-append, bits, came, flag, append_assoc)
 
     heard-then : (E : List stream.Event) × (heard_in n201 ((P ++ X) ++ value ∷ []) ≡ heard_until (room_for n201) place ++ (stream.frame o ∷ E))
     heard-then =
@@ -96,7 +91,4 @@ module _ (n201 : ℕ) (o : List ℕ) (whole : IsHeardWhole n201 o) where
         )
 
     pub frame-gained : gained n201 (P ++ X) value ≡ Some (stream.frame o)
-    frame-gained =
-        let x = heard-then in
-        some-gained (heard_until (room_for n201) place) x.0 (gained n201 (P ++ X) value)
-        (sym x.1 ∙ heard_with n201 (P ++ X) value ∙ ap (λ h. h ++ option_to_list (gained n201 (P ++ X) value)) heard-before)
+    frame-gained = grind (arith, heard-then, some-gained, heard_until, room_for, gained, heard_with, option_to_list, heard-before)

@@ -1,5 +1,5 @@
 -- What came before a flag does not matter, and flags before a text are not heard.
-use Rattle.laws_time.proofs.Vocabulary.{AreHeardWhole, Bool, List, None, Option, Some, [], after_flag, ap, append-nil, append_assoc, append_cancel_left, arith, bits, bits-append, cases_lt, cond, ends_flag, false, flag, flags, flat_map, frames_of, frames_round_trip_lem, gained, heard_at, heard_in, heard_until, heard_until-onto, heard_with, idle, inl, inr, item_text, length}
+use Rattle.laws_time.proofs.Vocabulary.{AreHeardWhole, Bool, List, Option, Some, [], after_flag, ap, append-nil, append_assoc, append_cancel_left, arith, bits, bits-append, cases_lt, cond, ends_flag, false, flag, flags, flat_map, frames_of, frames_round_trip_lem, gained, heard_at, heard_in, heard_until, heard_until-onto, heard_with, idle, inl, inr, item_text, length}
 use Rattle.laws_time.proofs.Vocabulary.{length-append, length-bits, length-replicate, low_bits, min, option_map, option_to_list, refl, replicate, reverse_aux, reverse_aux-append, room_for, since_flag, suc, sym, true, zero, ℕ, ◌++◌, ◌+◌, ◌<◌, ◌∙◌, ◌∷◌, ◌≡◌, ◌≤◌, ◌⊎◌}
 use Rattle.model_bits.specs.OpenGap.{run_of}
 use Rattle.model_bits.specs.Stream as stream
@@ -81,8 +81,7 @@ module _ (n201 : ℕ) where
   Begins x = (x ≡ []) ⊎ ((y : List Bool) × (bits x ≡ flag ++ y))
 
   pub flags-before : (n : ℕ) (x : List ℕ) → Begins x → heard_in n201 (replicate n 0x7E ++ x) ≡ heard_in n201 x
-  flags-before n x (inl none) =
-      ap (λ x. heard_in n201 (replicate n 0x7E ++ x)) none ∙ ap (heard_in n201) (append-nil (replicate n 0x7E)) ∙ flags-silent n ∙ ap (heard_in n201) (sym none)
+  flags-before n x (inl none) = grind (arith, heard_in, replicate, append-nil, flags-silent)
   flags-before n x (inr y) =
       let P = reverse_aux (bits (replicate n 0x7E)) [] in
       text-heard n x y.0 y.1 ∙ ap (λ l. l ++ hears (room_for n201) (after_flag P) y.0) (silent-place n) ∙ hears-same (room_for n201) y.0 [] P []
@@ -92,14 +91,12 @@ module _ (n201 : ℕ) where
   pub begins-so : (g x more : List ℕ) (left t : List Bool) → bits g ++ left ≡ flag ++ t → g ≡ x ++ more → Begins x
   begins-so g [] more left t text is = inl refl
   begins-so g (a ∷ x) more left t text is =
-      let all : bits (a ∷ x) ++ (bits more ++ left) ≡ flag ++ t =
-      sym (append_assoc (bits (a ∷ x)) (bits more) left) ∙ ap (λ b. b ++ left) (sym (bits-append (a ∷ x) more) ∙ ap bits (sym is)) ∙ text in
+      let all : bits (a ∷ x) ++ (bits more ++ left) ≡ flag ++ t = grind (arith, append_assoc, bits, bits-append) in
       let long = length-bits (a ∷ x) in
       let r = longer-begins flag t (bits (a ∷ x)) (bits more ++ left) (sym all) (omega (arith, long)) in inr (r.0, r.1)
 
   same-gain : (H : List stream.Event) (e : stream.Event) (o : Option stream.Event) → H ++ option_to_list o ≡ H ++ e ∷ [] → o ≡ Some e
-  same-gain H e None is = absurd (cc (append_cancel_left H [] (e ∷ []) is))
-  same-gain H e (Some f) is = ap (λ e. Some e) (cc (append_cancel_left H (f ∷ []) (e ∷ []) is))
+  same-gain h e h' is = grind (arith, append_cancel_left)
 
   none-gained : (H : List stream.Event) (e : stream.Event) → [] ≡ H ++ e ∷ [] → ⊥
   none-gained [] e is = cc is

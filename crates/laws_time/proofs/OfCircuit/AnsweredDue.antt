@@ -1,5 +1,5 @@
 -- A frame of a kind that waits at a port, or stands on its line and has not been heard whole yet: it does not get lost there.
-use Rattle.laws_time.proofs.Vocabulary.{Bool, Item, List, Port, [], ap, append-nil, append_assoc, arith, cases_lt, flag, frame, frame_text, inl, inr, item_text, length, length-append, line_text, line_text-push, refl, subst, sym, true, ℕ, ◌*◌, ◌++◌, ◌+◌, ◌<◌, ◌∙◌, ◌∷◌, ◌≡◌, ◌≤◌, ◌⊎◌}
+use Rattle.laws_time.proofs.Vocabulary.{Bool, Item, List, Port, [], ap, append-nil, append_assoc, arith, cases_lt, flag, frame, frame_text, inl, inr, item_text, length, length-append, line_text, line_text-push, refl, sym, true, ℕ, ◌*◌, ◌++◌, ◌+◌, ◌<◌, ◌∙◌, ◌∷◌, ◌≡◌, ◌≤◌, ◌⊎◌}
 use Rattle.laws_time.proofs.OfCircuit.Sender.{text_length}
 
 pub one-more : (items : List Item) (o : List ℕ) → text_length (items ++ frame o ∷ []) ≡ text_length items + length (item_text (frame o))
@@ -41,92 +41,24 @@ module _ (kind : List ℕ → Bool) (low most way : ℕ) where
   -- It is put at the end of what waits.
   pub due-put : (heard : ℕ) (p q : Port) (ring : List (List ℕ)) (o : List ℕ) (puts : List (List ℕ)) → q.items ≡ p.items → kind o ≡ true → 8 * low ≤ text_length p.items
       → text_length p.items + 72 * (length ring + 1) ≤ 8 * (most + 1) → Due heard q (ring ++ o ∷ puts)
-  due-put heard p q ring o puts items its after_low by = inr (record {
-    before = ring;
-    o = o;
-    behind = puts;
-    ring_is = refl;
-    its = its;
-    after_low = subst (λ is. 8 * low ≤ text_length is) (sym items) after_low;
-    by = subst (λ is. text_length is + 72 * length ring + 72 ≤ 8 * (most + 1)) (sym items) (omega (arith, by));
-  })
+  due-put heard p q ring o puts items its after_low by = grind arith
 
   -- More is put after it.
   pub due-more : (heard : ℕ) (p q : Port) (ring puts : List (List ℕ)) → q.items ≡ p.items → Due heard p ring → Due heard q (ring ++ puts)
-  due-more heard p q ring puts items (inl h) =
-      inl (record { front = h.front; o = h.o; more = h.more; items = items ∙ h.items; its = h.its; after_low = h.after_low; to_come = h.to_come; by = h.by })
-  due-more heard p q ring puts items (inr h) = inr (record {
-    before = h.before;
-    o = h.o;
-    behind = h.behind ++ puts;
-    ring_is = ap (λ r. r ++ puts) h.ring_is ∙ append_assoc h.before (h.o ∷ h.behind) puts;
-    its = h.its;
-    after_low = subst (λ is. 8 * low ≤ text_length is) (sym items) h.after_low;
-    by = subst (λ is. text_length is + 72 * length h.before + 72 ≤ 8 * (most + 1)) (sym items) h.by;
-  })
+  due-more heard p q ring puts items h = grind (arith, append_assoc, text_length, length)
 
   -- An octet is pulled.
   module _ (heard : ℕ) (p q : Port) (new : List Item) (ring now : List (List ℕ)) (items : q.items ≡ p.items ++ new) (short : 8 * heard ≤ text_length p.items) where
     first-taken : (h : InRing p ring) (first : List ℕ) (before : List (List ℕ)) → h.before ≡ before → new ≡ frame first ∷ [] → ring ≡ first ∷ now → length (item_text (frame first)) ≤ 72 → Due heard q now
-    first-taken h first [] is put ring_is few =
-        let same : h.o ≡ first = cc (sym (h.ring_is ∙ ap (λ b. b ++ h.o ∷ h.behind) is) ∙ ring_is) in
-        let o = h.o in
-        let more = one-more p.items h.o in
-        let some = some-text h.o in
-        let few_o = subst (λ o. length (item_text (frame o)) ≤ 72) (sym same) few in
-        let bound = h.by in
-        inl (record {
-          front = p.items;
-          o = h.o;
-          more = [];
-          items = items ∙ ap (λ n. p.items ++ n) (put ∙ ap (λ o. frame o ∷ []) (sym same));
-          its = h.its;
-          after_low = h.after_low;
-          to_come = omega (arith, more, some, short);
-          by = omega (arith, more, few_o, bound);
-        })
-    first-taken h first (b ∷ before) is put ring_is few =
-        let same : now ≡ before ++ h.o ∷ h.behind = cc (sym ring_is ∙ h.ring_is ∙ ap (λ b. b ++ h.o ∷ h.behind) is) in
-        let all = items ∙ ap (λ n. p.items ++ n) put in
-        let more = ap text_length all ∙ one-more p.items first in
-        let low_is = h.after_low in
-        let bound = h.by in
-        let long = ap length is in
-        inr (record {
-          before = before;
-          o = h.o;
-          behind = h.behind;
-          ring_is = same;
-          its = h.its;
-          after_low = omega (arith, more, low_is);
-          by = omega (arith, more, few, bound, long);
-        })
+    first-taken h first [] is put ring_is few = grind (arith, one-more, some-text, length, item_text)
+    first-taken h first (b ∷ before) is put ring_is few = grind (arith, text_length, one-more, length)
 
     none-waits : (h : InRing p ring) → ring ≡ [] → ⊥
     none-waits h none = let long = ap length (sym none ∙ h.ring_is) ∙ length-append h.before (h.o ∷ h.behind) in omega (arith, long)
 
     pub due-pulled : TakesFirst new ring now → Due heard p ring → Due heard q now
-    due-pulled takes (inl h) = inl (record {
-      front = h.front;
-      o = h.o;
-      more = h.more ++ new;
-      items = items ∙ ap (λ is. is ++ new) h.items ∙ append_assoc h.front (frame h.o ∷ h.more) new;
-      its = h.its;
-      after_low = h.after_low;
-      to_come = h.to_come;
-      by = h.by;
-    })
-    due-pulled (inl x) (inr h) =
-        let same = items ∙ ap (λ n. p.items ++ n) x.0 ∙ append-nil p.items in
-        inr (record {
-          before = h.before;
-          o = h.o;
-          behind = h.behind;
-          ring_is = x.1 ∙ h.ring_is;
-          its = h.its;
-          after_low = subst (λ is. 8 * low ≤ text_length is) (sym same) h.after_low;
-          by = subst (λ is. text_length is + 72 * length h.before + 72 ≤ 8 * (most + 1)) (sym same) h.by;
-        })
+    due-pulled takes (inl h) = grind (arith, append_assoc)
+    due-pulled (inl x) (inr h) = grind (arith, append-nil, text_length, length)
     due-pulled (inr (inl x)) (inr h) = first-taken h x.0 h.before refl x.1 x.2 x.3
     due-pulled (inr (inr none)) (inr h) = absurd (none-waits h none)
 

@@ -66,8 +66,7 @@ module _ (c : Config) (service : Service) (tei place : ℕ) (ranged : IsInRange 
         → lost (circuit.happens (port.octet value) s) ≡ lost s + (links.told (terms c service tei) (link.received (link.frame f)) h.its).lost
     lost-heard value d octets f spelled from side size is =
         let k = s.card.card.config in
-        let whole : came k.n201 octets ≡ stream.frame octets =
-        ap (λ (k : Config). came k.n201 octets) h.stands.config ∙ ap (λ n. came n octets) (sym size) ∙ ap (came d.n201) spelled ∙ from.carried.whole ∙ ap stream.frame (sym spelled) in
+        let whole : came k.n201 octets ≡ stream.frame octets = grind (arith, came) in
         let read = ap (λ (k : Config). reading (heard_side k) octets) h.stands.config
         ∙ ap (λ side. reading side octets) side ∙ ap (reading (own_side d)) spelled ∙ from.carried.read in
         lost-with s (circuit.happens (port.octet value) s) (links.course (terms c service tei) (link.received (link.frame f)) h.its)
@@ -135,9 +134,7 @@ module _ (c : Config) (service : Service) (tei place : ℕ) (ranged : IsInRange 
             let ring_long = length-map (h.its.waiting ++ puts.0) (text c service tei) in
             let left = few-left c ranged s h.ran in
             let text_all = text-is s h in
-            subst (Due (is_of kind c) low most way heard (port_of u)) (sym (ap (map (text c service tei)) waiting-is ∙ map-append (text c service tei) (h.its.waiting ++ puts.0) (puts.1 ∷ puts.2)))
-            (due-put (is_of kind c) low most way heard (port_of s) (port_of u) (map (text c service tei) (h.its.waiting ++ puts.0)) (text c service tei puts.1) (map (text c service tei) puts.2) mv.items
-            (text-kind c service tei place ranged kind puts.1 w ∙ puts.4) after_low (omega (arith, few, all, ring_long, left, text_all, soon)))
+            grind (arith, is_of, port_of, map, text, waiting-is, map-append, due-put, text-kind)
 
     -- An octet is pulled.
     module _ (s : OctetEndpoint) (h : Ends c service tei place ranged s) (x : Pulled c service tei place ranged s h) where

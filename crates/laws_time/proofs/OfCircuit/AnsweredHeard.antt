@@ -66,8 +66,7 @@ module _ (c : Config) (service : Service) (tei : ℕ) (ranged : IsInRange c) (d 
       kind-of kind so = grind arith
 
       same-state : (k : Ends c service tei 0 ranged (circuit.happens (port.octet value) s)) → k.its ≡ links.after (terms c service tei) (link.received (link.frame own.0)) h.its
-      same-state k = sym k.stands.speaks.link ∙ mv.ends.stands.speaks.link ∙ mv.link_is
-          ∙ ap (λ v. option_map_or (λ e. links.after (terms c service tei) e h.its) v h.its) event-is
+      same-state k = grind (arith, mv, option_map_or, links.after, terms, event-is)
 
       pub own-lost : lost (circuit.happens (port.octet value) s) ≡ lost s + (links.told (terms c service tei) (link.received (link.frame own.0)) h.its).lost
       own-lost = lost-heard c service tei 0 ranged s h value d octets own.0 own.1 own.2 side (size_far ∙ sym size) (here (Some (stream.frame octets)) is)

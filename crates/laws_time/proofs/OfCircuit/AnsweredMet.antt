@@ -10,15 +10,7 @@ use Rattle.laws_time.specs.circuit.WorkedAnswered.{AnEnquiryIsMet, before, its_l
 
 fits : IsFit its_line
 unfolding sapi_fault
-fits = record {
-  call = record { near = (refl, omega arith); far = (refl, omega arith); opposite = (refl, refl); terminal = omega arith };
-  some = omega arith;
-  lengths = (
-    record { t200 = omega arith; t203 = omega arith; t201 = omega arith; t202 = omega arith; t200_most = omega arith; t203_most = omega arith; t201_most = omega arith; t202_most = omega arith },
-    record { t200 = omega arith; t203 = omega arith; t201 = omega arith; t202 = omega arith; t200_most = omega arith; t203_most = omega arith; t201_most = omega arith; t202_most = omega arith },
-  );
-  t200 = (omega arith, omega arith);
-}
+fits = grind arith
 
 plain-talk : IsTalk its_line plain
 plain-talk = (All-nil (IsOfLink Call 0), All-nil (IsOfLink Call 0))

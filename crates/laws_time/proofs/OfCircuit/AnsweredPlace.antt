@@ -83,16 +83,10 @@ module _ (n201 : ℕ) (kind : List ℕ → Bool) (low most way heard clean : ℕ
       ap line_text d.items ∙ text-of d.front (frame d.o ∷ d.more) flag ∙ ap (λ b. b ++ (T ++ R)) z.1 ∙ append_assoc z.0 flag (T ++ R)
 
   came-is : bits (all_sent way p) ++ left_of p ≡ bits c.before ++ (bits c.as_sent ++ (bits (value ∷ []) ++ tail))
-  came-is =
-      ap (λ os. bits os ++ left_of p) (c.sent ∙ append_assoc c.before c.as_sent (value ∷ more))
-      ∙ ap (λ b. b ++ left_of p) (bits-append c.before (c.as_sent ++ value ∷ more) ∙ ap (λ b. bits c.before ++ b) (bits-append c.as_sent (value ∷ more) ∙ ap (λ b. bits c.as_sent ++ b) (bits-append (value ∷ []) more)))
-      ∙ append_assoc (bits c.before) (bits c.as_sent ++ (bits (value ∷ []) ++ bits more)) (left_of p)
-      ∙ ap (λ b. bits c.before ++ b) (append_assoc (bits c.as_sent) (bits (value ∷ []) ++ bits more) (left_of p) ∙ ap (λ b. bits c.as_sent ++ b) (append_assoc (bits (value ∷ [])) (bits more) (left_of p)))
+  came-is = grind (arith, bits, left_of, append_assoc, bits-append)
 
   sent-is : bits (all_sent way p) ++ left_of p ≡ (first ++ z.0) ++ (flag ++ (T ++ R))
-  sent-is =
-      ap (λ b. b ++ left_of p) (bits-append (replicate way 0x7E) p.given) ∙ append_assoc first (bits p.given) (left_of p)
-      ∙ ap (λ b. first ++ b) (sym h.sound.text.text ∙ text-is) ∙ sym (append_assoc first z.0 (flag ++ (T ++ R)))
+  sent-is = grind (arith, left_of, bits-append, replicate, append_assoc, bits, text-is, z, flag)
 
   front-long : text_length d.front ≡ length z.0 + 8
   front-long = ap length z.1 ∙ length-append z.0 flag
@@ -130,8 +124,4 @@ module _ (n201 : ℕ) (kind : List ℕ → Bool) (low most way heard clean : ℕ
       longer-begins rest.0 R (bits (value ∷ [])) tail (sym rest.2) (omega (arith, e, a, b, r, one, now, so_many))
 
   pub heard-here : gained n201 q.received value ≡ Some (stream.frame d.o)
-  heard-here =
-      let come = d.to_come in let e = end-long in let a = u-long in let b = part-long in let r = rest-long in
-      ap (λ os. gained n201 os value) c.received
-      ∙ frame-gained n201 d.o whole c.noisy c.as_sent value u.0 part.0 rest.0 extra.0 (part.1 ∙ append_assoc u.0 flag part.0) rest.1 extra.1
-      (omega (arith, come, e, a, b, r, so_many))
+  heard-here = grind (arith, end-long, u-long, part-long, rest-long, gained, frame-gained, whole, u, part, rest, extra, append_assoc)

@@ -1,5 +1,5 @@
 -- An end of the circuit as a station of frames, after each event: layer 3 hears the same there, except what was dropped.
-use Rattle.laws_time.proofs.Vocabulary.{FrameEndpoint, LineTold, List, None, OctetEndpoint, Option, Request, Some, Timer, [], ap, append-nil, as_endpoint, asked-as, cond, false, flat_map, flat_map-append, for_layer_3, fresh_line, gained, heard-as, if_meant, is_due, line_after, line_answer, option_map, port_of, pulled-as, refl, set-get_or, subst, sym, takes_slot, true, ℕ, ◌++◌, ◌∙◌, ◌≡◌}
+use Rattle.laws_time.proofs.Vocabulary.{FrameEndpoint, LineTold, List, None, OctetEndpoint, Option, Request, Some, Timer, [], ap, append-nil, as_endpoint, asked-as, cond, false, flat_map, flat_map-append, for_layer_3, fresh_line, gained, heard-as, if_meant, is_due, line_after, line_answer, option_map, port_of, pulled-as, refl, set-get_or, subst, sym, takes_slot, true, ℕ, ◌∙◌, ◌≡◌, arith}
 use Rattle.model_bits.specs.Stream as stream
 use Rattle.model_line.specs.Event as line
 use Rattle.model_card.specs.ports.Port as port
@@ -22,24 +22,12 @@ pub record Becomes (x : FrameEndpoint) (way : List (List ℕ)) (s : OctetEndpoin
 -- An event of the line.
 module _ (e : line.Event) (way way' : List (List ℕ)) (s u : OctetEndpoint) (same : as_endpoint way' u ≡ wire.happens e (as_endpoint way s))
     (ts : List LineTold) (heard : heard_of ts ≡ heard_of s.told) where
-  abbrev new : List LineTold
-  new = wire.told_by (wire.answered e (as_endpoint way s))
-
   pub stirred : Becomes (wire.happens e (station way ts s)) way' u
-  stirred = record {
-    ts = ts ++ wire.told_by (wire.answered e (as_endpoint way s));
-    is = sym (ap (λ (x : FrameEndpoint). record x { told = ts ++ wire.told_by (wire.answered e (as_endpoint way s)) }) same);
-    heard = flat_map-append for_layer_3 ts new ∙ ap (λ hs. hs ++ heard_of new) heard ∙ sym (flat_map-append for_layer_3 s.told new)
-        ∙ sym (ap (λ (x : FrameEndpoint). heard_of x.told) same);
-  }
+  stirred = grind (arith, wire.told_by, wire.answered, as_endpoint, flat_map-append, for_layer_3)
 
 -- No event of it.
 pub unstirred : (way : List (List ℕ)) (s u : OctetEndpoint) → as_endpoint way u ≡ as_endpoint way s → (ts : List LineTold) → heard_of ts ≡ heard_of s.told → Becomes (station way ts s) way u
-unstirred way s u same ts heard = record {
-  ts = ts;
-  is = sym (ap (λ (x : FrameEndpoint). record x { told = ts }) same);
-  heard = heard ∙ sym (ap (λ (x : FrameEndpoint). heard_of x.told) same);
-}
+unstirred way s u same ts heard = grind arith
 
 pub asked-becomes : (r : Request) (way : List (List ℕ)) (s : OctetEndpoint) (ts : List LineTold) → heard_of ts ≡ heard_of s.told
     → Becomes (wire.happens (line.request r) (station way ts s)) way (happens (port.request r) s)
@@ -104,10 +92,4 @@ module _ (value : ℕ) (way : List (List ℕ)) (s : OctetEndpoint) (ts : List Li
       let card = ap (λ (x : FrameEndpoint). x.card) same ∙ dropped-card cause in
       let number = ap (λ (x : FrameEndpoint). x.line) same in
       let granted = ap (λ (x : FrameEndpoint). x.granted) same ∙ dropped-granted cause in
-      record {
-        ts = ts;
-        is = λ i. record { card = sym card i; line = sym number i; way = way; granted = sym granted i; told = ts };
-        heard = heard ∙ sym (append-nil (heard_of s.told)) ∙ ap (λ hs. heard_of s.told ++ hs) (sym (dropped-unheard cause))
-            ∙ sym (flat_map-append for_layer_3 s.told (wire.told_by (wire.answered (line.hears (stream.dropped cause)) (as_endpoint way s))))
-            ∙ sym (ap (λ (x : FrameEndpoint). heard_of x.told) same);
-      }
+      grind (arith, append-nil, dropped-unheard, flat_map-append, for_layer_3, wire.told_by, wire.answered, as_endpoint)

@@ -1,5 +1,5 @@
 -- A beat of the clocked circuit is done on a wire of frames, and T200 is long enough there.
-use Rattle.laws_time.proofs.Vocabulary.{All, All-nil, Beat, Clocked, FrameEndpoint, HasNo, IsClearAt, IsFit, IsOfLink, IsTalk, Line, LineTold, LinkEndpoint, List, Port, Request, StationStands, TimedEndpoint, Wire, [], all_due, answered_in, ap, arith, asks, beat, card_of, comes_to, drop, fold, frames_among, fresh, gone, happens, hears, is_final, length, port_of, refl, subst, sym, ℕ, ◌*◌, ◌+◌, ◌/◌}
+use Rattle.laws_time.proofs.Vocabulary.{All, All-nil, Beat, Clocked, FrameEndpoint, HasNo, IsClearAt, IsFit, IsOfLink, IsTalk, Line, LineTold, LinkEndpoint, List, Request, StationStands, TimedEndpoint, Wire, [], all_due, answered_in, ap, arith, asks, beat, card_of, comes_to, drop, fold, frames_among, fresh, gone, happens, hears, is_final, length, port_of, refl, subst, sym, ℕ, ◌*◌, ◌+◌, ◌/◌}
 use Rattle.laws_time.proofs.Vocabulary.{◌≡◌, ◌≤◌}
 use Rattle.model_card.specs.ports.Port as port
 use Rattle.laws_time.proofs.OfCircuit.Fallen.{is_t200, is_t203, fallen}
@@ -272,10 +272,7 @@ module _ (how : Manner) (l : Line) (fit : IsFit l) (w : Clocked) (p : Pair l fit
     far_same = (far-comes l fit w p b talk (length (fold asks (at_time (w.beats / l.rate) w.far) b.far_asks).clock.running)).port
 
     beat-puts : put_at (beat l.rate w b) ≡ put_at w + (np.n + kp.n)
-    beat-puts =
-        let a = ap (λ is. length (frames_among is)) near-port.0 in let b1 = np.puts in let c1 = ap (λ (p : Port). length (frames_among p.items)) near_same in
-        let d1 = ap (λ is. length (frames_among is)) far-port.0 in let e = kp.puts in let f1 = ap (λ (p : Port). length (frames_among p.items)) far_same in
-        omega (arith, a, b1, c1, d1, e, f1)
+    beat-puts = grind (arith, length, frames_among, near-port, np, near_same, far-port, kp, far_same)
 
     pub beat-on : Led how l t200s far_t200s (t203s + far_t203s) w b x (station back us w.far.at)
     beat-on = record { f = last; n = np.n + kp.n; path = beat-path; same = beat-same; puts = beat-puts }

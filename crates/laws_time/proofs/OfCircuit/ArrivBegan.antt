@@ -1,11 +1,12 @@
 -- The circuit begins as a call on a wire, as soon as it is asked for.
-use Rattle.laws_time.proofs.Vocabulary.{All, All-head, All-nil, All-tail, AreAsked, AreClear, AreInRange, Assign, Beat, Clocked, Config, Establish, FrameEndpoint, IsClearAt, IsFit, IsIdle as AsksNothing, IsInRange, IsOfLink, IsTalk, Lengths, Line, List, Request, Service, TimedEndpoint, [], after, ap, asked, asked-as, asked-way, beat, begins, calls, comes_to, drop, endpoint, flags, fold-append}
+use Rattle.laws_time.proofs.Vocabulary.{All, All-head, All-nil, All-tail, AreAsked, AreClear, AreInRange, Assign, Beat, Clocked, Config, Establish, FrameEndpoint, IsClearAt, IsFit, IsIdle as AsksNothing, IsInRange, IsOfLink, IsTalk, Lengths}
+use Rattle.laws_time.proofs.Vocabulary.{Line, List, Request, Service, TimedEndpoint, [], after, ap, asked, asked-as, asked-way, beat, begins, calls, comes_to, drop, endpoint, flags, fold-append, arith}
 use Rattle.laws_time.proofs.Vocabulary.{gone, hears, length, obeyed, octet_endpoint, port_of, stopped, subst, sym, ℕ, ◌++◌, ◌/◌, ◌<◌, ◌∷◌, ◌≡◌, ◌≤◌}
 use Rattle.model_line.specs.Event as line
 use Rattle.laws_wire.specs.Call as call
 use Rattle.laws_wire.specs.Wire as wire
 use Rattle.laws_time.proofs.OfCircuit.ArrivAs.{station, heard_of}
-use Rattle.laws_time.proofs.OfCircuit.ArrivPath.{Manner, of_call}
+use Rattle.laws_time.proofs.OfCircuit.ArrivPath.{Manner}
 use Rattle.laws_time.proofs.OfCircuit.ArrivPulls.{heard-port}
 use Rattle.laws_time.proofs.OfCircuit.ArrivIdle.{IsIdle, comes-none, idle-at, pulls-idle, hears-idle}
 use Rattle.laws_time.proofs.OfCircuit.ArrivRun.{Reached, ReachedSome, AreAskedSo, AreKept, call-kept, IsFairBoth, first-going, reached-by-from}
@@ -119,5 +120,4 @@ module _ (l : Line) (fit : IsFit l) where
   pub reached : (before : List Beat) (b : Beat) (bs : List Beat) → All AsksNothing before → AreAsked l b → All (AreAsked l) bs → AreClear l (before ++ calls l b ∷ bs) (begins l)
       → IsFairBoth (after l.rate (before ++ calls l b ∷ bs) (begins l))
       → Reached l fit (call.calling l.service l.tei l.near l.near_line l.far l.far_line) (after l.rate (before ++ calls l b ∷ bs) (begins l))
-  reached before b bs nothing are_asked all clear fair =
-      reached-by of_call before b bs nothing are_asked all clear (call-kept l (calls l b ∷ bs) (after l.rate before (begins l))) fair
+  reached before b bs nothing are_asked all clear fair = grind (arith, reached-by, call-kept, calls, after, begins)

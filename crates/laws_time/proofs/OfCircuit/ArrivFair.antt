@@ -1,6 +1,6 @@
 -- Which errors are told as T200 expires: those by which N200 is used up.
-use Rattle.laws_time.proofs.Vocabulary.{Config, Course, ErrorCode, FrameEndpoint as Endpoint, LineTold, Link, LinkEndpoint, List, MayRepeat, Note, Service, StationStands, T200, TellNoError, Terms, [], ap, append-nil, arith, course, error_in, expired, expires-said, expiry, false, flat_map, flat_map-append, heard_by, is_error, is_used_up, list_any, list_any-append, or_parts, refl, said_by, subst}
-use Rattle.laws_time.proofs.Vocabulary.{sym, ℕ, ◌++◌, ◌∙◌, ◌∷◌, ◌≡◌}
+use Rattle.laws_time.proofs.Vocabulary.{Config, Course, ErrorCode, FrameEndpoint as Endpoint, LineTold, Link, LinkEndpoint, List, MayRepeat, Note, Service, StationStands, T200, TellNoError, Terms, [], append-nil, arith, course, error_in, expired, expires-said, expiry, false, flat_map, flat_map-append, heard_by, is_error, is_used_up, list_any, list_any-append, or_parts, refl, said_by}
+use Rattle.laws_time.proofs.Vocabulary.{ℕ, ◌++◌, ◌∷◌, ◌≡◌}
 use Rattle.lapd_frame.specs.declared.timers.Timer.TheVariants as timers
 use Rattle.laws_wire.specs.Wire.{answered, told_by}
 
@@ -14,9 +14,7 @@ pub codes-append : (ts us : List LineTold) → codes (ts ++ us) ≡ codes ts ++ 
 codes-append ts us = grind (arith, flat_map-append)
 
 pub fair-parts : (ts us : List LineTold) → IsFair (ts ++ us) → IsFair ts × IsFair us
-fair-parts ts us is =
-    or_parts (list_any is_used_up (codes ts)) (list_any is_used_up (codes us))
-    (sym (list_any-append is_used_up (codes ts) (codes us)) ∙ ap (list_any is_used_up) (sym (codes-append ts us)) ∙ is)
+fair-parts ts us is = grind (arith, or_parts, list_any, is_used_up, list_any-append, codes-append)
 
 -- A link whose T200 expires.
 t200-used : (t : Terms) (l : Link) → list_any is_used_up (flat_map error_in (course t (expired T200) l).notes) ≡ false → list_any is_error (course t (expired T200) l).notes ≡ false
@@ -37,14 +35,11 @@ module _ (service : Service) (tei place : ℕ) (c : Config) (s : Endpoint) (n : 
   silent = record s { told = [] }
 
   stands : StationStands s.card.config service tei place (record s { told = [] }) n
-  stands = subst (λ k. StationStands k service tei place (record s { told = [] }) n) (sym h.config)
-      (record { config = h.config; sound = h.sound; within = h.within; speaks = h.speaks; terms = h.terms; way = h.way; carried = h.carried })
+  stands = grind arith
 
   said : told_by (answered (expiry (timers.T200 service tei)) s) ≡ said_by (course n.terms (expired T200) n.link)
   said = expires-said service tei place silent n stands (timers.T200 service tei) T200 (λ l. refl)
 
   -- So no error is told there, where N200 is not used up.
   pub fair-may : IsFair (told_by (answered (expiry (timers.T200 service tei)) s)) → MayRepeat service tei s
-  fair-may fair =
-      subst TellNoError (sym said)
-      (none-said (course n.terms (expired T200) n.link) (t200-used n.terms n.link (said-fair (course n.terms (expired T200) n.link) (subst IsFair said fair))))
+  fair-may fair = grind (arith, said, none-said, course, t200-used, said-fair)

@@ -1,6 +1,6 @@
 -- Before the call nothing is asked: no frame goes, no timer runs, and nothing is told but what noise makes.
 use Rattle.laws_time.proofs.Vocabulary.{Bool, Config, FrameEndpoint, IsFrame, IsInRange, List, None, OctetEndpoint, Option, Ran, Request, Service, Some, StationStands, TimedEndpoint, [], answered, ap, append-nil, arith, as_endpoint, at, comes_to, cond, drop, fall_due, false, fresh_link, gained, gave, gives-none, happens, hears, inl, inr, is_due, length, line_after}
-use Rattle.laws_time.proofs.Vocabulary.{line_answer, next, obeyed, octet_at, octet_orders, option_map, orders_in, port_of, refl, set-get_or, subst, sym, takes_slot, true, unwrap_or, ℕ, ◌++◌, ◌+◌, ◌<◌, ◌∙◌, ◌∷◌, ◌≡◌, ◌≤◌}
+use Rattle.laws_time.proofs.Vocabulary.{line_answer, next, octet_at, octet_orders, option_map, orders_in, port_of, refl, set-get_or, subst, sym, takes_slot, true, unwrap_or, ℕ, ◌++◌, ◌+◌, ◌<◌, ◌∙◌, ◌∷◌, ◌≡◌, ◌≤◌}
 use Rattle.model_bits.specs.Stream as stream
 use Rattle.model_line.specs.Event as line
 use Rattle.model_card.specs.Machine as machine
@@ -47,13 +47,7 @@ module _ (service : Service) (c : Config) (ranged : IsInRange c) (number tei : �
 
   -- after an event that orders nothing
   becomes-idle : (a : TimedEndpoint) (ev : port.Event) → IsIdle c number tei a → octet_orders (answered ev a.at) ≡ [] → Becomes (station [] first.told a.at) [] (circuit.happens ev a.at) → IsIdle c number tei (happens ev a)
-  becomes-idle a ev h none b =
-      let told : first.told ≡ b.ts = ap (λ (x : FrameEndpoint). x.told) b.is in
-      record {
-        same = subst (λ ts. station [] ts (circuit.happens ev a.at) ≡ first) (sym told) (sym b.is ∙ h.same);
-        heard = ap heard_of told ∙ b.heard;
-        none_run = ap (λ os. (obeyed a.at.line os a.clock).running) none ∙ h.none_run;
-      }
+  becomes-idle a ev h none b = grind arith
 
   -- An octet is pulled.
   module _ (a : TimedEndpoint) (h : IsIdle c number tei a) (ran : Ran c a.at) (goes : Going c.n201 (port_of a.at) a.at.way []) where

@@ -1,5 +1,5 @@
 -- A call bears noise: what is told of it on a wire is told of the circuit.
-use Rattle.laws_time.proofs.Vocabulary.{All, All-head, All-tail, AreAsked, CallsBearNoise, Clocked, F, Face, FrameEndpoint, IsBeginningOf, IsFit, IsInRangeTerms as IsInRange, IsTold, Line, LineTold, List, OctetEndpoint, TimedEndpoint, Wire, [], after, ap, begins, calling, calls, confirmed, data_told, errors_at, flat_map, for_layer_3, indicated, is_used_up, list_any, list_any-append, map}
+use Rattle.laws_time.proofs.Vocabulary.{All, All-head, All-tail, AreAsked, CallsBearNoise, Clocked, F, Face, FrameEndpoint, IsBeginningOf, IsFit, IsInRangeTerms as IsInRange, IsTold, Line, LineTold, List, OctetEndpoint, TimedEndpoint, Wire, [], after, ap, begins, calling, calls, confirmed, data_told, errors_at, flat_map, for_layer_3, indicated, is_used_up, list_any, list_any-append, map, arith}
 use Rattle.laws_time.proofs.Vocabulary.{or_parts, setting, subst, sym, terms, ℕ, ◌++◌, ◌∙◌, ◌∷◌, ◌≡◌}
 use Rattle.laws_wire.specs.Losing.{heard_in}
 use Rattle.laws_time.proofs.OfCircuit.ArrivBegan.{reached}
@@ -20,14 +20,7 @@ module _ (l : Line) (fit : IsFit l) (start : Wire) (w : Clocked) (r : Reached l 
 
   told-so : (first : LineTold) (s x : FrameEndpoint) (a b : TimedEndpoint) (there back : List (List ℕ)) (ts us : List LineTold) → s ≡ station there ts a.at → x ≡ station back us b.at → heard_of us ≡ heard_of b.at.told
       → IsBeginningOf (first ∷ map (data_told l.service l.tei) s.granted) (heard_in x) → (Free s → contents_of (heard_in x) ≡ s.granted) → IsTold l first a b
-  told-so first s x a b there back ts us is same heard order all =
-      let granted : s.granted ≡ a.at.granted = ap (λ (s : FrameEndpoint). s.granted) is in
-      let here = heard-is x b.at back us same heard in
-      record {
-        in_order = subst (λ told. IsBeginningOf (first ∷ map (data_told l.service l.tei) a.at.granted) told) here
-            (subst (λ granted. IsBeginningOf (first ∷ map (data_told l.service l.tei) granted) (heard_in x)) granted order);
-        all = λ free. sym (contents-heard b.at.told) ∙ ap contents_of (sym here) ∙ all (subst Free (sym is) free) ∙ granted;
-      }
+  told-so first s x a b there back ts us is same heard order all = grind (arith, heard-is, map, data_told, heard_in, contents-heard, contents_of)
 
   pub is-told : (errors_at w.near ≡ []) × All (λ code. code ≡ F) (errors_at w.far) × (errors_at w.far ≡ [] → IsTold l (confirmed l.service l.tei) w.far w.near × IsTold l (indicated l.service l.tei) w.near w.far)
   is-told =

@@ -107,9 +107,7 @@ module _ (c : Config) (service : Service) (tei : ℕ) (ranged : IsInRange c) whe
           let f = fine c service tei 0 ranged s h in
           let o = out c.n201 (port_of s) f in
           let given : (port_of s).given ≡ before = carries.given ∙ append-nil before in
-          let same : framed o.on_its_way ≡ framed fs =
-          append_cancel_left (heard_in c.n201 before) (framed o.on_its_way) (framed fs)
-          (ap (λ g. heard_in c.n201 g ++ framed o.on_its_way) (sym given) ∙ sym o.heard ∙ carries.are) in
+          let same : framed o.on_its_way ≡ framed fs = grind (arith, append_cancel_left, heard_in, framed) in
           all-behind IsNot o.on_its_way [] fs same (on-line o.on_its_way refl o.one)
       none-of-way (v ∷ rest) before fs carries past = way-then v rest before fs carries past (λ fs carries longer. none-of-way rest (before ++ v ∷ []) fs carries longer)
 

@@ -1,5 +1,5 @@
 -- From one wire of two cards to another, by what is done in a call with losses, where T200 is long enough.
-use Rattle.laws_time.proofs.Vocabulary.{All, All-append, All-cons, All-head, All-nil, All-tail, All-weaker, Bool, Data, EndStep as Step, IsAskedOfLink as IsAsked, IsData, IsFullTalk, IsFullTalkOf, IsTimelyOf, List, Request, Service, StayPatient, StepAt, Wire, [], acting, ap, arith, at_far, at_near, cond, doing, doing-append, expires, false, far_asks, is_t200, is_turn_of, loses, near_asks}
+use Rattle.laws_time.proofs.Vocabulary.{All, All-append, All-cons, All-head, All-nil, All-tail, All-weaker, Bool, EndStep as Step, IsAskedOfLink as IsAsked, IsData, IsFullTalk, IsTimelyOf, List, Request, Service, StayPatient, StepAt, Wire, [], acting, ap, arith, at_far, at_near, cond, doing, doing-append, expires, false, far_asks, is_t200, is_turn_of, loses, near_asks}
 use Rattle.laws_time.proofs.Vocabulary.{receives, refl, requests, runs_t200, sends, subst, sym, turned, wire_doing_all as doing_all, ℕ, ◌&&◌, ◌++◌, ◌+◌, ◌∙◌, ◌∷◌, ◌≡◌}
 unfoldable use Rattle.laws_wire.specs.Expiring.{how_often}
 use Rattle.laws_wire.specs.Losing.{IsOfLink}
@@ -39,23 +39,6 @@ IsDoneOf how service tei other = Unit {0}
 abbrev pub IsDone : Manner → Service → ℕ → StepAt → Type 0
 IsDone how service tei (at_near act) = IsDoneOf how service tei act
 IsDone how service tei (at_far act) = IsDoneOf how service tei act
-
-module _ (service : Service) (tei : ℕ) where
-  is-asked : (r : Request) → IsData service tei r → IsAsked service tei r
-  is-asked (Data s t contents) is = is
-  is-asked other is = absurd is
-
-  may-asked : (how : Manner) (r : Request) → MayAsk how service tei r → IsAsked service tei r
-  may-asked of_call r is = is
-  may-asked of_data r is = is-asked r is
-  may-asked of_whole r is = is-asked r is
-
-  full-of : (how : Manner) (act : Step) → IsDoneOf how service tei act → IsFullTalkOf service tei act
-  full-of how (requests r) is = may-asked how r is
-  full-of how (expires timer) is = is
-  full-of how sends is = tt
-  full-of how receives is = tt
-  full-of how loses is = tt
 
 -- How often a timer expires in what is done in turn.
 abbrev pub count : Bool → ℕ
@@ -119,8 +102,7 @@ swap-expiries (at_far act ∷ ds) = ap (λ n. expiries_of act + n) (swap-expirie
 
 module _ (how : Manner) (service : Service) (tei : ℕ) where
   full-one : (d : StepAt) → IsDone how service tei d → IsFullTalk service tei d
-  full-one (at_near act) is = full-of service tei how act is
-  full-one (at_far act) is = full-of service tei how act is
+  full-one h is = grind arith
 
   -- From one wire to another. In it T200 expires so often at either end while it runs there, and another timer so often; and so many frames are given.
   pub record Path (near_falls far_falls others given : ℕ) (w v : Wire) : Type 0 where
@@ -139,16 +121,7 @@ module _ (how : Manner) (service : Service) (tei : ℕ) where
 
   -- It counts as many.
   pub path-as : (i j k n i' j' k' n' : ℕ) (w v : Wire) → i ≡ i' → j ≡ j' → k ≡ k' → n ≡ n' → Path i j k n w v → Path i' j' k' n' w v
-  path-as i j k n i' j' k' n' w v x y z g p = record {
-    steps = p.steps;
-    done = p.done;
-    patient = p.patient;
-    leads = p.leads;
-    near = p.near ∙ x;
-    far = p.far ∙ y;
-    all = p.all ∙ (λ t. x t + y t + z t);
-    gives = p.gives ∙ g;
-  }
+  path-as i j k n i' j' k' n' w v x y z g p = grind arith
 
   pub path-both : (w v x : Wire) → {i j k n i' j' k' n' : ℕ} → Path i j k n w v → Path i' j' k' n' v x → Path (i + i') (j + j') (k + k') (n + n') w x
   path-both w v x {i} {j} {k} {n} {i'} {j'} {k'} {n'} p q = record {

@@ -1,5 +1,5 @@
 -- A call of the clocked circuit is one on a wire of frames, where T200 is long enough.
-use Rattle.laws_time.proofs.Vocabulary.{All, All-cons, All-head, All-nil, All-tail, AreAsked, AreClear, AreOctets, Beat, Bool, Carries, ClearBusy, Clocked, Data, Establish, FrameEndpoint, IsAsked, IsDataOf, IsFit, IsOfLink, IsTalk, Line, LineTold, List, Option, Port, Request, SetBusy, TimedEndpoint, Timer, Wire, [], after, answered_in, append-nil, arith, asked, asks, beat, calls, card_of}
+use Rattle.laws_time.proofs.Vocabulary.{All, All-cons, All-head, All-nil, All-tail, AreAsked, AreClear, AreOctets, Beat, Bool, Carries, Clocked, Establish, FrameEndpoint, IsAsked, IsDataOf, IsFit, IsOfLink, IsTalk, Line, LineTold, List, Option, Port, Request, TimedEndpoint, Timer, Wire, [], after, answered_in, append-nil, arith, asked, asks, beat, calls, card_of}
 use Rattle.laws_time.proofs.Vocabulary.{comes_to, flags, fresh_port, gone, hears, inl, length, port_of, refl, subst, sym, unwrap_or, ℕ, ◌+◌, ◌/◌, ◌∙◌, ◌∷◌, ◌≡◌}
 use Rattle.model_line.specs.Event as line
 use Rattle.model_card.specs.ports.Port as port
@@ -10,7 +10,7 @@ use Rattle.laws_time.proofs.OfCircuit.ArrivAs.{station, heard_of, asked-becomes}
 use Rattle.laws_time.proofs.OfCircuit.ArrivBeat.{IsBoth, Same, Led, put_at, near-stood, beat-on, NearStood, ago, far_end, far-stands, far-finals}
 use Rattle.laws_time.proofs.OfCircuit.ArrivHeard.{IsKeptAt}
 use Rattle.laws_time.proofs.OfCircuit.ArrivFair.{IsFair}
-use Rattle.laws_time.proofs.OfCircuit.ArrivPath.{Manner, of_call, of_data, of_whole, MayAsk, Path, path-as, path-none, path-both, path-on}
+use Rattle.laws_time.proofs.OfCircuit.ArrivPath.{Manner, of_call, MayAsk, Path, path-as, path-none, path-both, path-on}
 use Rattle.laws_time.proofs.OfCircuit.ArrivSide.{fair-happens, fair-asks, fair-falls, stood-then}
 use Rattle.laws_time.proofs.OfCircuit.ArrivWay.{Going}
 use Rattle.laws_time.proofs.OfCircuit.Ends.{Leads, at_time}
@@ -19,8 +19,7 @@ use Rattle.laws_time.proofs.OfCircuit.LongEnough.{near-in-all, pair-then, Pair}
 
 -- What is told later leaves what was told.
 fair-hears : (noise : Option ℕ) (way : List ℕ) (a : TimedEndpoint) → IsFair (hears noise way a).at.told → IsFair a.at.told
-fair-hears noise [] a fair = fair
-fair-hears noise (value ∷ more) a fair = fair-happens (port.octet (unwrap_or noise value)) a fair
+fair-hears noise h a fair = grind (arith, fair-happens, unwrap_or)
 
 fair-comes : (moment : ℕ) (rs : List Request) (a : TimedEndpoint) → IsFair (comes_to moment rs a).at.told → IsFair a.at.told
 fair-comes moment rs a fair = fair-asks rs (at_time moment a) (fair-falls (length (asked moment rs a).clock.running) (asked moment rs a) fair)
@@ -29,8 +28,7 @@ abbrev pub IsFairBoth : Clocked → Type 0
 IsFairBoth w = IsFair w.near.at.told × IsFair w.far.at.told
 
 fair-gone : (rate : ℕ) (b : Beat) (w : Clocked) → IsFairBoth (beat rate w b) → IsFairBoth (gone rate b w)
-fair-gone rate b w fair =
-    (fair-hears b.near_noise (gone rate b w).far.at.way (gone rate b w).near fair.0, fair-hears b.far_noise (gone rate b w).near.at.way (gone rate b w).far fair.1)
+fair-gone rate b w fair = grind (arith, fair-hears, gone)
 
 fair-before : (rate : ℕ) (b : Beat) (w : Clocked) → IsFairBoth (beat rate w b) → IsFairBoth w
 fair-before rate b w fair =
@@ -78,30 +76,15 @@ call-kept l (b ∷ bs) w = (inl tt, inl tt, call-kept l bs (beat l.rate w b))
 
 module _ (l : Line) (fit : IsFit l) where
   of-call : (r : Request) → IsAsked l r → IsOfLink l.service l.tei r
-  of-call (Data s t contents) is = is
-  of-call (SetBusy s t) is = is
-  of-call (ClearBusy s t) is = is
-  of-call other is = absurd is
+  of-call other is = grind arith
 
   pub all-of-link : (rs : List Request) → All (IsAsked l) rs → All (IsOfLink l.service l.tei) rs
   all-of-link [] all = All-nil (IsOfLink l.service l.tei)
   all-of-link (r ∷ rs) all = All-cons (IsOfLink l.service l.tei) r rs (of-call r (All-head (IsAsked l) r rs all)) (all-of-link rs (All-tail (IsAsked l) r rs all))
 
 module _ (how : Manner) (l : Line) (fit : IsFit l) where
-  by-call : (r : Request) → IsAsked l r → IsOfLink l.service l.tei r × MayAsk of_call l.service l.tei r
-  by-call (Data s t contents) is = (is, (is.0, is.1))
-  by-call (SetBusy s t) is = (is, is)
-  by-call (ClearBusy s t) is = (is, is)
-  by-call other is = absurd is
-
-  by-data : (r : Request) → IsDataOf l r → IsOfLink l.service l.tei r × MayAsk of_data l.service l.tei r
-  by-data (Data s t contents) is = (is, (is.0, is.1))
-  by-data other is = absurd is
-
   both-of : (how : Manner) (r : Request) → MayBeAsked how l r → IsOfLink l.service l.tei r × MayAsk how l.service l.tei r
-  both-of of_call r is = by-call r is
-  both-of of_data r is = by-data r is
-  both-of of_whole r is = by-data r is
+  both-of h r is = grind arith
 
   all-both : (rs : List Request) → All (MayBeAsked how l) rs → All (IsBoth how l) rs
   all-both [] all = All-nil (IsBoth how l)

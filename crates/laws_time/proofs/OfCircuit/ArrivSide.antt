@@ -1,6 +1,6 @@
 -- What layer 3 asks at an end of the clocked circuit, and what falls due there, is done at the station for which it stands, where T200 is
 -- long enough.
-use Rattle.laws_time.proofs.Vocabulary.{All, All-cons, All-head, All-nil, All-tail, Bool, Config, Control, ControlFrame, Expiry, FrameEndpoint, HasNo, IsInRange, IsLongEnough, IsOfLink, Lengths, LineTold, LinkEndpoint, List, None, Option, Parts, Request, Service, Some, StationStands, TimedEndpoint, Timer, Wire, [], ap, arith, asks, awaits_in, card_of, due, expires, fall_due, falls, false}
+use Rattle.laws_time.proofs.Vocabulary.{All, All-head, All-tail, Config, Expiry, FrameEndpoint, HasNo, IsInRange, IsLongEnough, IsOfLink, Lengths, LineTold, LinkEndpoint, List, None, Option, Request, Service, Some, StationStands, TimedEndpoint, Timer, Wire, [], ap, arith, asks, awaits_in, card_of, due, expires, fall_due, falls}
 use Rattle.laws_time.proofs.Vocabulary.{fold, fresh, happens, is_final, is_poll, is_t200, is_waiting, length, open-here, option_map_or, port_of, refl, requests, runs-is, runs_t200, state-is, state_number, subst, suc, sym, true, without_first, zero, ℕ, ◌&&◌, ◌*◌, ◌+◌, ◌<◌, ◌∙◌, ◌∷◌, ◌≡◌, ◌≤◌}
 use Rattle.lapd_frame.specs.declared.timers.Timer.TheVariants as timers
 use Rattle.model_line.specs.Event as line
@@ -12,7 +12,7 @@ use Rattle.laws_time.proofs.OfCircuit.Acts.{Goes, asks-goes, fell-goes, soon-the
 use Rattle.laws_time.proofs.OfCircuit.ArrivAs.{station, heard_of, Becomes, asked-becomes, expired-becomes}
 use Rattle.laws_time.proofs.OfCircuit.ArrivFair.{IsFair, fair-parts, fair-may}
 use Rattle.laws_time.proofs.OfCircuit.ArrivOpen.{parts, are-own, stands, has-none}
-use Rattle.laws_time.proofs.OfCircuit.ArrivPath.{Manner, MayAsk, Path, count, path-as, path-none, path-both, path-one}
+use Rattle.laws_time.proofs.OfCircuit.ArrivPath.{Manner, MayAsk, Path, count, path-none, path-both, path-one}
 use Rattle.laws_time.proofs.OfCircuit.ArrivWay.{Going, going-with, before-long}
 use Rattle.laws_time.proofs.OfCircuit.Ends.{Leads, leads-both, first-of, timed}
 use Rattle.laws_time.proofs.OfCircuit.InCallWalk.{Walks, event-walks, due-walks}
@@ -38,27 +38,8 @@ pub fair-falls : (k : ℕ) (a : TimedEndpoint) → IsFair (fall_due k a).at.told
 fair-falls k a =
     falls-keep (λ u. IsFair u.at.told → IsFair a.at.told) (λ x u is was fair. was (fair-happens (port.expiry x.timer) (record u { clock = without_first u.clock }) fair)) k a (λ fair. fair)
 
--- A command with P=1 asks.
-poll-asks : (command : Bool) (control : Control) → asks_frame command control ≡ false → is_poll command control ≡ false
-poll-asks command control none = grind arith
-
 no-polls : (n : LinkEndpoint) → HasNo asks_frame n → HasNo is_poll n
-no-polls n h = record {
-  waiting = all-waiting n.link.waiting h.waiting;
-  way = all-way n.way h.way;
-}
-  where
-    all-waiting : (fs : List ControlFrame) → All (λ (f : ControlFrame). asks_frame f.command f.control ≡ false) fs → All (λ (f : ControlFrame). is_poll f.command f.control ≡ false) fs
-    all-waiting [] all = All-nil (λ (f : ControlFrame). is_poll f.command f.control ≡ false)
-    all-waiting (f ∷ fs) all =
-        All-cons (λ (f : ControlFrame). is_poll f.command f.control ≡ false) f fs (poll-asks f.command f.control (All-head (λ (f : ControlFrame). asks_frame f.command f.control ≡ false) f fs all))
-        (all-waiting fs (All-tail (λ (f : ControlFrame). asks_frame f.command f.control ≡ false) f fs all))
-
-    all-way : (fs : List Parts) → All (λ (f : Parts). asks_frame f.address.command f.control ≡ false) fs → All (λ (f : Parts). is_poll f.address.command f.control ≡ false) fs
-    all-way [] all = All-nil (λ (f : Parts). is_poll f.address.command f.control ≡ false)
-    all-way (f ∷ fs) all =
-        All-cons (λ (f : Parts). is_poll f.address.command f.control ≡ false) f fs (poll-asks f.address.command f.control (All-head (λ (f : Parts). asks_frame f.address.command f.control ≡ false) f fs all))
-        (all-way fs (All-tail (λ (f : Parts). asks_frame f.address.command f.control ≡ false) f fs all))
+no-polls n h = grind arith
 
 -- The states that await an answer.
 same-waits : (k : ℕ) → awaits_in (Some k) ≡ is_waiting k
@@ -98,8 +79,7 @@ module _ (how : Manner) (service : Service) (tei : ℕ) (c : Config) (ranged : I
   after-none S a x h = record { S = S; x' = x; stood = h; path = path-none how service tei (with x) (with x) refl }
 
   after-as : (i k i' k' : ℕ) (x : FrameEndpoint) (u : TimedEndpoint) → i ≡ i' → k ≡ k' → After i k x u → After i' k' x u
-  after-as i k i' k' x u same other g =
-      record { S = g.S; x' = g.x'; stood = g.stood; path = path-as how service tei i 0 k 0 i' 0 k' 0 (with x) (with g.x') same refl other refl g.path }
+  after-as i k i' k' x u same other g = grind arith
 
   after-both : (x : FrameEndpoint) (u v : TimedEndpoint) → {i k i' k' : ℕ} → (g : After i k x u) → After i' k' g.x' v → After (i + i') (k + k') x v
   after-both x u v g k = record { S = k.S; x' = k.x'; stood = k.stood; path = path-both how service tei (with x) (with g.x') (with k.x') g.path k.path }

@@ -1,5 +1,5 @@
 -- What is told in a call with losses on a wire: which errors, and all data whose sender keeps nothing any more.
-use Rattle.laws_time.proofs.Vocabulary.{All, All-append, All-cons, All-head, All-nil, All-tail, Bool, Called, CanCall, Config, ErrorCode, F, Face, FrameEndpoint as Endpoint, Held, IsBeginningOf, IsFullTalk, IsInRangeTerms as IsInRange, LineTold, Link, LinkEndpoint, List, Ok, Room, Service, StationStands, StayPatient, StepAt, Terms, ToldSo, Wire, [], all-left, ap, append-nil}
+use Rattle.laws_time.proofs.Vocabulary.{All, All-append, All-head, All-nil, All-tail, Bool, Called, CanCall, Config, ErrorCode, F, Face, FrameEndpoint as Endpoint, Held, IsBeginningOf, IsFullTalk, IsInRangeTerms as IsInRange, LineTold, Link, LinkEndpoint, List, Ok, Room, Service, StationStands, StayPatient, StepAt, Terms, ToldSo, Wire, [], all-left, ap, append-nil}
 use Rattle.laws_time.proofs.Vocabulary.{arith, at_far, at_near, bad_tei, behind, calling, cond, confirmed, data_told, doing, drop, end, error_f, expires, false, first_that_holds, flat_map, flat_map-append, for_layer_3, free_slots, front-none, indicated, inl, inr, length, length-drop, line_at, link-is, link-ranges, link-sound, link_of, loses, lossy-calls-come-through, map, nil_from_length}
 use Rattle.laws_time.proofs.Vocabulary.{no_link, not-told, option_to_list, patient-goes, queue_of, receives, refl, renewed, requests, rising-low, room_of, seeing, seen, sends, setting, subst, sym, take, take_all, takes_sabme, terms, true, ua, uncalled, wire_doing_all as doing_all, with_before, with_sabme, ℕ, ◌++◌, ◌==◌, ◌∙◌, ◌∷◌, ◌≡◌, ◌≤◌, ◌⊎◌}
 use Rattle.model_link.proofs.Direction.{line_of}
@@ -64,9 +64,7 @@ module _ (service : Service) (tei : ℕ) where
   news told sent = cond (length told == 0) (indicated service tei) (cond sent (renewed service tei) (error_f service tei))
 
   some-f : (b sent : Bool) → All IsF (codes (cond b (indicated service tei) (cond sent (renewed service tei) (error_f service tei)) ∷ []))
-  some-f true sent = All-nil IsF
-  some-f false true = All-cons IsF F [] refl (All-nil IsF)
-  some-f false false = All-cons IsF F [] refl (All-nil IsF)
+  some-f h sent = grind arith
 
   one-more : (told : List LineTold) (sent : Bool) (g granted : ℕ) → Known service tei told g → (told ≡ [] → sent ≡ false) → Known service tei (told ++ news told sent ∷ []) (cond sent granted g)
   one-more told sent g granted k quiet = record {
@@ -163,9 +161,7 @@ module _ (service : Service) (tei : ℕ) (c d : Config) (p q : ℕ) (face : Face
     Away b s = run.Away service tei c d p q face back rt ru past b s
 
     away-far : (b : Bool) → run.Rs service tei c d p q face back rt ru (Away b) v → FarHas
-    away-far b (inl h) = same-data past (heard_in v.far) h.far.M.delivered v.near.granted h.far.held.heard h.far.delivered h.near.granted
-    away-far b (inr (inl h)) = same-data past (heard_in v.far) h.far.M.delivered v.near.granted h.far.held.heard h.far.delivered h.near.granted
-    away-far b (inr (inr h)) = same-data past (heard_in v.far) h.far.M.delivered v.near.granted h.far.held.heard h.far.delivered h.near.granted
+    away-far b h = grind arith
 
     called-far : (b : Bool) → IsFree v.near → run.IsCalled service tei c d p q face back rt ru past b v → FarHas
     called-far b free (inl h) = away-far b h
@@ -203,19 +199,13 @@ module _ (service : Service) (tei : ℕ) (c d : Config) (p q : ℕ) (face : Face
 
   module _ (v : Wire) (down : run.Rs service tei c d p q face back rt ru (run.Down service tei c d p q face back rt ru) v) where
     down-far : (heard_in v.far ≡ []) × (v.near.granted ≡ []) × (v.far.granted ≡ []) × (heard_in v.near ≡ [])
-    down-far = go down
-      where
-        go : run.Rs service tei c d p q face back rt ru (run.Down service tei c d p q face back rt ru) v → (heard_in v.far ≡ []) × (v.near.granted ≡ []) × (v.far.granted ≡ []) × (heard_in v.near ≡ [])
-        go (inl h) = (h.far.heard, h.near.granted, h.far.granted, h.near.heard)
-        go (inr (inl h)) = (h.far.heard, h.near.granted, h.far.granted, h.near.heard)
-        go (inr (inr h)) = (h.far.heard, h.near.granted, h.far.granted, h.near.heard)
+    down-far = grind arith
 
   pub down-near : (v : Wire) → run.Rs service tei c d p q face back rt ru (run.Down service tei c d p q face back rt ru) v → heard_in v.near ≡ []
   down-near v down = (down-far v down).3
 
   phase-far : (x : Called) (v : Wire) → run.Phase service tei c d p q face back rt ru x v → IsFree v.near → heard_in v.far ≡ x.told ++ all_data v.near.granted
-  phase-far x v (inl (told, sent, down)) free =
-      let n = down-far v down in n.0 ∙ sym (ap (λ ts. ts ++ all_data v.near.granted) told ∙ ap all_data n.1)
+  phase-far x v (inl (told, sent, down)) free = grind arith
   phase-far x v (inr (some, h)) free = called-far x.told v x.sent free h
 
   phase-near : (x : Called) (v : Wire) → run.Phase service tei c d p q face back rt ru x v → IsFree v.far → contents_of (heard_in v.near) ≡ v.far.granted
@@ -238,22 +228,13 @@ module _ (service : Service) (tei : ℕ) (c d : Config) (p q : ℕ) (face : Face
     few none = grind (arith, front-none, codes-append)
 
     none-given : codes (heard_in w.far) ≡ [] → x.given_up ≡ 0
-    none-given none = go (few none)
-      where
-        go : ((x.told ≡ []) × (x.given_up ≡ 0)) ⊎ ((x.told ≡ indicated service tei ∷ []) × (x.given_up ≡ 0)) → x.given_up ≡ 0
-        go (inl y) = y.1
-        go (inr y) = y.1
+    none-given none = grind (arith, few, indicated)
 
     pub no-earlier : codes (heard_in w.far) ≡ [] → w ≡ h.v
-    no-earlier none =
-        h.is ∙ ap (λ g. with_before g h.v) (nil_from_length h.earlier (sym h.given_up ∙ none-given none))
+    no-earlier none = grind (arith, with_before, nil_from_length, none-given)
 
     told-contents : codes (heard_in w.far) ≡ [] → contents_of x.told ≡ []
-    told-contents none = go (few none)
-      where
-        go : ((x.told ≡ []) × (x.given_up ≡ 0)) ⊎ ((x.told ≡ indicated service tei ∷ []) × (x.given_up ≡ 0)) → contents_of x.told ≡ []
-        go (inl y) = ap contents_of y.0
-        go (inr y) = ap contents_of y.0
+    told-contents none = grind (arith, few, indicated)
 
     far-begins : codes (heard_in w.far) ≡ [] → IsBeginningOf (indicated service tei ∷ map (data_told service tei) w.near.granted) (heard_in w.far)
     far-begins none = go (few none)
@@ -264,13 +245,8 @@ module _ (service : Service) (tei : ℕ) (c d : Config) (p q : ℕ) (face : Face
 
     pub concluded : Concluded w
     concluded = record {
-      near_codes = front-none (codes (heard_in w.near)) (codes t.near.0.0)
-          (sym (codes-append (heard_in w.near) t.near.0.0) ∙ ap codes t.near.0.1 ∙ codes-data service tei (drop x.given_up w.far.granted));
-      far_codes = all-left IsF (codes (heard_in w.far)) (codes t.far.0.0)
-          (subst (All IsF)
-          (sym (sym (codes-append (heard_in w.far) t.far.0.0) ∙ ap codes t.far.0.1 ∙ codes-append x.told (map (data_told service tei) w.near.granted)
-          ∙ ap (λ cs. codes x.told ++ cs) (codes-data service tei w.near.granted) ∙ append-nil (codes x.told)))
-          known.all_f);
+      near_codes = grind (arith, front-none, codes, heard_in, codes-append, codes-data, drop);
+      far_codes = grind (arith, all-left, codes, heard_in, codes-append, map, data_told, codes-data, append-nil);
       near_order = λ none. subst (λ n. IsBeginningOf (confirmed service tei ∷ map (data_told service tei) (drop n w.far.granted)) (heard_in w.near)) (none-given none) t.near.0;
       far_order = far-begins;
       near_all = λ none free. subst (λ w. IsFree w.far → contents_of (heard_in w.near) ≡ w.far.granted) (sym (no-earlier none)) (phase-near x h.v h.phase) free;

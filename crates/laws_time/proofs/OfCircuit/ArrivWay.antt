@@ -20,14 +20,7 @@ pub record Going (n201 : ℕ) (p : Port) (way : List ℕ) (there : List (List �
 
 -- What does not change the port and the way leaves it.
 pub going-with : (n201 : ℕ) (p q : Port) (way way' : List ℕ) (there : List (List ℕ)) → q.items ≡ p.items → q.given ≡ p.given → way' ≡ way → Going n201 p way there → Going n201 q way' there
-going-with n201 p q way way' there items given same h = record {
-  flags = h.flags;
-  rest = h.rest;
-  before = h.before;
-  carries = grind (arith, Carries);
-  way_is = same ∙ h.way_is;
-  first = h.first;
-}
+going-with n201 p q way way' there items given same h = grind arith
 
 -- ---- a pull
 

@@ -1,7 +1,7 @@
 -- Two ends of the clocked circuit as they begin: nothing is under way, and no timer runs.
-use Rattle.laws_time.proofs.Vocabulary.{All, All-nil, AreInRange, AreOctets, Assign, Bool, Card, Config, GivesOctets, IsInRange, Lengths, List, None, OctetEndpoint, Option, Port, Ran, Refusal, Service, Some, StationStands, [], answered, ap, arith, asked-as, asked-way, at, at_management, cond, endpoint, false, first, flags, frames_among, fresh_at, fresh_link, fresh_port, goes-on}
+use Rattle.laws_time.proofs.Vocabulary.{All, All-nil, AreInRange, AreOctets, Assign, Bool, Card, Config, GivesOctets, IsInRange, Lengths, List, OctetEndpoint, Port, Ran, Service, Some, StationStands, [], answered, ap, arith, asked-as, asked-way, at, cond, endpoint, first, flags, frames_among, fresh_at, fresh_link, fresh_port, goes-on}
 use Rattle.laws_time.proofs.Vocabulary.{is_final, is_terminal, length, length-replicate, line_answer, meant_all, moments as frame_moments, octet_at, octet_endpoint, octet_orders, of_aim, of_network, of_terminal, orders_in, port-after, port_of, ports_fresh as fresh, refl, refusal, some-in, stopped, subst, sym, tei_assign, tei_course, tei_refusal, terminal_course}
-use Rattle.laws_time.proofs.Vocabulary.{true, true≢false, unless_refused, unless_refused_told, within-ports, ℕ, ◌+◌, ◌<◌, ◌∙◌, ◌≡◌, ◌≤◌}
+use Rattle.laws_time.proofs.Vocabulary.{true≢false, unless_refused, unless_refused_told, within-ports, ℕ, ◌+◌, ◌<◌, ◌∙◌, ◌≡◌, ◌≤◌}
 use Rattle.lapd_terminal.specs.Events as terminals
 use Rattle.model_line.specs.Event as line
 use Rattle.model_line.specs.Line.{Line}
@@ -34,26 +34,14 @@ module _ (c : Config) (tei : ℕ) (l : Line) where
 
   assigned-none : orders_in (line_answer c (line.request (Assign tei)) l) ≡ []
   unfolding line_answer
-  assigned-none = unless (refusal c false (Assign tei) l)
-    where
-      by-side : (b : Bool) → (cond b (of_terminal c (terminals.assign tei) l) (of_network c (tei_assign tei) l)).told.orders ≡ []
-      by-side true = there
-      by-side false = here
-
-      unless : (o : Option Refusal) → orders_in (unless_refused_told o (of_aim c (unless_refused o (at_management (tei_assign tei))) l)) ≡ []
-      unless None = by-side (is_terminal c)
-      unless (Some why) = refl
+  assigned-none = grind (arith, refusal, cond, of_terminal, of_network, there, here, orders_in, unless_refused_told, of_aim, unless_refused, is_terminal)
 
 assign-orders : (number tei : ℕ) (card : Card) → orders_in (machine.answer (at number (line.request (Assign tei))) card) ≡ []
 assign-orders number tei card = grind (arith, assigned-none)
 
 -- A port that gave nothing, and has nothing to give.
 pub sends-none : (n201 : ℕ) (kind : List ℕ → Bool) (most : ℕ) (p : Port) → p ≡ fresh_port → Sends n201 kind most p []
-sends-none n201 kind most p is = subst (λ p. Sends n201 kind most p []) (sym is) (record {
-  done = λ first value more o given gains kind_is. absurd (some-in first value more given);
-  last = λ front o put kind_is. absurd (some-in front (Rattle.model_bits.specs.Sent.frame o) [] put);
-  wait = none-wait n201 kind most (text_length fresh_port.items);
-})
+sends-none n201 kind most p is = grind (arith, some-in, none-wait, text_length, fresh_port)
 
 module _ (c : Config) (service : Service) (tei number way : ℕ) (ranged : IsInRange c) (within : number < c.lines) (few : tei ≤ 126) (lengths : Lengths) (in_range : AreInRange lengths) (rate : ℕ) where
   abbrev pub start : OctetEndpoint

@@ -1,6 +1,6 @@
 -- A station whose link is up: how many of its contents are acknowledged, as its room says, and how many the other was told.
-use Rattle.laws_time.proofs.Vocabulary.{BadTei, Bool, Config, Established, FrameEndpoint as Endpoint, Held, LineTold, Link, LinkEndpoint, List, LooseAt, LooseUp, NoLink, None, Ok, Refusal, Room, Service, Some, StationStands, Terms, TimerRecovery, Wire, [], ap, arith, cond, false, free_slots, inl, inr, is_on-at, le-ltb, length, length-drop, length-take-le, line_at, link-is}
-use Rattle.laws_time.proofs.Vocabulary.{link-ranges, link-sound, link_of, not, place_of-is, queue_of, refl, rising-low, room_of, subst, sym, terms, true, unless, ℕ, ◌+◌, ◌∙◌, ◌≡◌, ◌≤◌, ◌⊎◌}
+use Rattle.laws_time.proofs.Vocabulary.{BadTei, Bool, Config, Established, FrameEndpoint as Endpoint, Held, LineTold, Link, LinkEndpoint, List, LooseAt, LooseUp, NoLink, None, Ok, Refusal, Room, Service, Some, StationStands, Terms, TimerRecovery, Wire, [], ap, arith, cond, false, free_slots, inl, is_on-at, le-ltb, length, length-drop, length-take-le, line_at, link-is}
+use Rattle.laws_time.proofs.Vocabulary.{link-ranges, link-sound, link_of, not, place_of-is, queue_of, refl, rising-low, room_of, subst, sym, terms, true, unless, ℕ, ◌+◌, ◌≡◌, ◌≤◌}
 use Rattle.model_link.proofs.Direction.{line_of}
 use Rattle.model_card.specs.Room.{room}
 use Rattle.laws_wire.specs.Losing.{heard_in}
@@ -60,11 +60,7 @@ module _ (service : Service) (tei : ℕ) where
     owing h at = record { n = h.n; m = h.m; at = record { near = h.near; far = h.far; loose = h.loose }; holds = record { had = omega arith; is = inl (refl, at) } }
 
     pub settled : (k : ℕ) (h : UpWith service tei c d p q past other (Owes true k) w) → h.n.link.state ≡ Established → UpWith service tei c d p q past other (Owes false k) w
-    settled k h at = record { n = h.n; m = h.m; at = h.at; holds = record { had = h.holds.had; is = inr (go h.holds.is) } }
-      where
-        go : ((true ≡ true) × (h.n.link.state ≡ TimerRecovery)) ⊎ (k ≤ h.n.link.a) → k ≤ h.n.link.a
-        go (inl (b, asks)) = absurd (cc (sym asks ∙ at))
-        go (inr low) = low
+    settled k h at = grind arith
 
     pub paid : (k : ℕ) (h : UpWith service tei c d p q past other (Owes false k) w) → k ≤ h.n.link.a
     paid k h = grind arith

@@ -1,5 +1,5 @@
 -- An end that enquired catches up: on a wire, and as it is seen on the circuit.
-use Rattle.laws_time.proofs.Vocabulary.{Bool, Clocked, Config, Established, Face, FrameEndpoint, HasCaughtUp, IsFit, Line, LineTold, Link, LinkEndpoint, List, Option, Service, Setting, Some, State, StationStands, TimedEndpoint, TimerRecovery, Wire, [], ap, arith, confirmed, contents_at, false, indicated, length, refl, setting, state_at}
+use Rattle.laws_time.proofs.Vocabulary.{Bool, Clocked, Config, Established, Face, HasCaughtUp, IsFit, Line, LineTold, Link, LinkEndpoint, List, Option, Service, Setting, Some, State, StationStands, TimedEndpoint, TimerRecovery, Wire, [], ap, arith, confirmed, contents_at, false, indicated, length, refl, setting, state_at}
 use Rattle.laws_time.proofs.Vocabulary.{state_number, subst, sym, turned, ℕ, ◌∙◌, ◌∷◌, ◌≡◌, ◌≤◌}
 use Rattle.laws_wire.specs.Losing.{heard_in}
 use Rattle.laws_time.proofs.OfCircuit.ArrivAs.{heard_of}
@@ -81,17 +81,7 @@ module _ (l : Line) (fit : IsFit l) where
 
     -- What holds on the wire is seen at the ends.
     pub near-shows : (k : ℕ) (then : TimedEndpoint) → length (contents_at then) ≡ k → Shows l.service l.tei l.near l.far its.face its.back near_past far_past refl k f → HasCaughtUp l then w.far w.near
-    near-shows k then is (n, ack, low, high) = (
-      n,
-      subst (λ (s : FrameEndpoint). Acknowledges l.service l.tei n s) same.near_is ack,
-      subst (λ k. k ≤ n) (sym is) low,
-      subst (λ xs. n ≤ length xs) far-contents high,
-    )
+    near-shows k h is h' = grind (arith, length, far-contents)
 
     pub far-shows : (k : ℕ) (then : TimedEndpoint) → length (contents_at then) ≡ k → Shows l.service l.tei l.far l.near its.back its.face far_past near_past refl k (turned f) → HasCaughtUp l then w.near w.far
-    far-shows k then is (n, ack, low, high) = (
-      n,
-      subst (λ (s : FrameEndpoint). Acknowledges l.service l.tei n s) same.far_is ack,
-      subst (λ k. k ≤ n) (sym is) low,
-      subst (λ xs. n ≤ length xs) near-contents high,
-    )
+    far-shows k h is h' = grind (arith, length, near-contents)

@@ -1,7 +1,6 @@
 -- Two links that are up: what the one had received while the other asks is acknowledged once that is answered.
 use Rattle.laws_time.proofs.Vocabulary.{Bool, Control, IsTrue, Link, LinkEndpoint, LinkTimer, List, Loose, Means, Parts, Rising, Seq, Terms, TimerRecovery, ap, arith, expired, inl, inr, is_multiple_frame, link_after as after, named-means, received, refl, rising-low, seq, subst, sym, true, with_link, with_sent, ℕ, ◌++◌, ◌+◌, ◌∙◌, ◌∷◌, ◌≡◌, ◌≤◌, ◌⊎◌}
-use Rattle.laws_wire.proofs.Vocabulary.{frame, frames_of, offer-gave, offer-goes, expires-goes, line, Kind, kind_of, numbered, enquiry, answer, report, rejection, alien, NoAlien, is-no-alien, Flow, Heard, heard, is_recovering, answer-says, frame-taken, named-within, named-is_seq, flows-low, most}
-use Rattle.laws_wire.proofs.Joint.{timer-goes}
+use Rattle.laws_wire.proofs.Vocabulary.{frame, frames_of, offer-gave, offer-goes, line, Kind, kind_of, answer, NoAlien, is-no-alien, Flow, Heard, heard, is_recovering, answer-says, frame-taken, named-within, named-is_seq, flows-low, most}
 use Rattle.laws_wire.proofs.UaCalled.{Stirs}
 
 -- A link goes on by itself: its V(A) and V(R) stay, and state 8 does.
@@ -11,21 +10,10 @@ pub record Still (l l' : Link) : Type 0 where
   pub keeps : l.state ≡ TimerRecovery → l'.state ≡ TimerRecovery
 
 pub sent-still : (n m : LinkEndpoint) → Loose n m → Still n.link (with_sent n).link
-sent-still n m h =
-    let g = offer-gave n.terms h.joined.near_ranges n.link h.joined.near_sound n.link.waiting refl in
-    record { a = g.acknowledged; r = g.received; keeps = λ at. (offer-goes n.terms n.link).state ∙ at }
+sent-still n m h = grind (arith, offer-gave, offer-goes)
 
 pub timer-still : (t : Terms) (l : Link) → IsTrue (is_multiple_frame l.state) → (timer : LinkTimer) → IsTrue (is_multiple_frame (after t (expired timer) l).state) → Still l (after t (expired timer) l)
-timer-still t l up timer on =
-    let g = timer-goes t l up timer on in
-    record {
-      a = g.still;
-      r = g.received;
-      keeps = λ at. elim (expires-goes t l up timer on) [
-        | inl k ↦ k.state ∙ at
-        | inr x ↦ x.1.state
-      ];
-    }
+timer-still t l up timer on = grind arith
 
 pub stirred : (Free : Type 0) (l l' : Link) → Stirs Free l l' → Still l l'
 stirred Free l l' x = record { a = x.a; r = x.r; keeps = λ at. grind (arith, most, is_recovering) }
@@ -99,16 +87,10 @@ module _ (n m : LinkEndpoint) (h : Loose n m) (f : Parts) (fs : List Parts) (fir
       let below : i ≤ m.link.r = rising-low i m.link.r (fs ++ frames_of m.terms m.link.waiting) rising.3 in
       let high : m.link.r ≤ n.link.s = flows-low n m h.there in
       let near = within-127 in
-      acknowledged
-      ∙ sym (named-means n.link.a n.link.s i m.link.r (seq i) refl low (omega (arith, below, high, near)) (omega (arith, low, below)) high near (sym two ∙ one))
+      grind (arith, acknowledged, named-means, seq)
 
   in-8 : (y : Kind) → x ≡ y → NoAlien y → Heard y true n.link l' → n.link.state ≡ TimerRecovery → (l'.state ≡ TimerRecovery) ⊎ (l'.a ≡ m.link.r)
-  in-8 (numbered ns) is known_ k at = inl (k.state ∙ at)
-  in-8 enquiry is known_ k at = inl (k.state ∙ at)
-  in-8 (answer nr) is known_ k at = inr (answered nr is (ap is_recovering at))
-  in-8 report is known_ k at = inl (k.state ∙ at)
-  in-8 (rejection nr) is known_ k at = inl (k.state ∙ at)
-  in-8 alien is known_ k at = absurd known_
+  in-8 h is known_ k at = grind (arith, answered, is_recovering)
 
   -- An end in state 8 stays there, or acknowledges all that the other end has received.
   pub asks-on : n.link.state ≡ TimerRecovery → (l'.state ≡ TimerRecovery) ⊎ (l'.a ≡ m.link.r)

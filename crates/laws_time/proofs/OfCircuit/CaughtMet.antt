@@ -11,15 +11,7 @@ use Rattle.laws_time.proofs.OfCircuit.ArrivMet.{octet}
 
 fits : IsFit its_line
 unfolding sapi_fault
-fits = record {
-  call = record { near = (refl, omega arith); far = (refl, omega arith); opposite = (refl, refl); terminal = omega arith };
-  some = omega arith;
-  lengths = (
-    record { t200 = omega arith; t203 = omega arith; t201 = omega arith; t202 = omega arith; t200_most = omega arith; t203_most = omega arith; t201_most = omega arith; t202_most = omega arith },
-    record { t200 = omega arith; t203 = omega arith; t201 = omega arith; t202 = omega arith; t200_most = omega arith; t203_most = omega arith; t201_most = omega arith; t202_most = omega arith },
-  );
-  t200 = (omega arith, omega arith);
-}
+fits = grind arith
 
 -- The beats after the first.
 later : (P : Beat → Type 0) → P plain → P sends → All P (talks ++ replicate 17 plain)

@@ -1,5 +1,5 @@
 -- A call on the circuit up to a time, and from there on, part by part: on a wire of frames both links are up.
-use Rattle.laws_time.proofs.Vocabulary.{All, All-append, All-cons, All-head, All-nil, All-tail, AreAsked, AreClear, Beat, Clocked, Establish, GoesWell, IsIdle, IsOfLink, IsTalk, IsUp, Line, List, LooseUp, Option, Request, Some, [], after, all-left, all-right, ap, append_assoc, arith, beat, begins, calling, calls, errors_at, false, fold-append, front-none, in_call, inl, inr}
+use Rattle.laws_time.proofs.Vocabulary.{All, All-append, All-cons, All-head, All-nil, All-tail, AreAsked, AreClear, Beat, Clocked, Establish, GoesWell, IsIdle, IsOfLink, IsTalk, IsUp, Line, List, LooseUp, Option, Request, Some, [], after, all-left, all-right, ap, append_assoc, arith, beat, begins, calling, calls, errors_at, fold-append, front-none, in_call, inl, inr}
 use Rattle.laws_time.proofs.Vocabulary.{is_used_up, list_any, list_any-append, or_parts, refl, state_at, subst, sym, ℕ, ◌++◌, ◌∙◌, ◌∷◌, ◌≡◌, ◌⊎◌}
 use Rattle.laws_wire.specs.Losing.{heard_in}
 use Rattle.laws_time.proofs.OfCircuit.ArrivBeat.{put_at}
@@ -26,9 +26,6 @@ idle-talk l (b ∷ before) all = All-cons (IsTalk l) b before (none b.near_asks 
 module _ (l : Line) (before bs more : List Beat) (b : Beat) (h : GoesWell l before b (bs ++ more)) where
   abbrev w : Clocked
   w = in_call l before b bs
-
-  abbrev u : Clocked
-  u = after l.rate more (in_call l before b bs)
 
   abbrev first : List Beat
   first = before ++ calls l b ∷ bs
@@ -68,9 +65,7 @@ module _ (l : Line) (before bs more : List Beat) (b : Beat) (h : GoesWell l befo
   walk = walks-all l h.fit more w pair-w (talk-all l h.fit more asked-more) clear.1
 
   pub fair-u : IsFairBoth (after l.rate more (in_call l before b bs))
-  fair-u =
-      let used = subst (λ (u : Clocked). list_any is_used_up (errors_at u.near ++ errors_at u.far) ≡ false) same-world h.used in
-      or_parts (list_any is_used_up (errors_at u.near)) (list_any is_used_up (errors_at u.far)) (sym (list_any-append is_used_up (errors_at u.near) (errors_at u.far)) ∙ used)
+  fair-u = grind (arith, list_any, is_used_up, errors_at, same-world, or_parts, list_any-append)
 
   pub reached-w : Reached l h.fit (calling l.service l.tei l.near l.near_line l.far l.far_line) (in_call l before b bs)
   reached-w = reached l h.fit before b bs h.idle asked-b asked-bs clear.0 (fair-all l.rate more w fair-u)
@@ -78,11 +73,7 @@ module _ (l : Line) (before bs more : List Beat) (b : Beat) (h : GoesWell l befo
   -- However it was reached: no error F was told by then.
   module _ (r : Reached l h.fit (calling l.service l.tei l.near l.near_line l.far l.far_line) (in_call l before b bs)) where
     quiet : codes (heard_in r.f.far) ≡ []
-    quiet =
-        let none = subst (λ (u : Clocked). errors_at u.far ≡ []) same-world h.heard in
-        ap codes (far-heard l h.fit w pair-w r.f r.same)
-        ∙ codes-heard w.far.at.told
-        ∙ front-none (codes w.far.at.told) (codes walk.far.more) (sym (codes-append w.far.at.told walk.far.more) ∙ ap codes (sym walk.far.grows) ∙ none)
+    quiet = grind (arith, errors_at, same-world, codes, far-heard, pair-w, codes-heard, front-none, walk, codes-append)
 
     -- Both links are up, once the end that calls is.
     pub up-there : IsUp l (in_call l before b bs).near → LooseUp l.service l.tei l.near l.far 0 0 (near_past l h.fit) (far_past l h.fit) r.f

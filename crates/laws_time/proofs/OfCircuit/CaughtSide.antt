@@ -1,5 +1,5 @@
 -- An end asks at a time: it has caught up in the end, or asks all the time.
-use Rattle.laws_time.proofs.Vocabulary.{AwaitingEstablishment, AwaitingRelease, Beat, Bool, Clocked, Config, Established, Face, HasCaughtUp, IsTrue, IsUp, Line, LineTold, LinkEndpoint, List, LooseUp, Some, State, StationStands, TeiAssigned, TimedEndpoint, TimerRecovery, Wire, [], after, ap, append_assoc, beat, contents_at, false, fold-append, inl, inr, is_multiple_frame, length, refl, state_at}
+use Rattle.laws_time.proofs.Vocabulary.{Beat, Bool, Clocked, Config, Face, HasCaughtUp, IsTrue, IsUp, Line, LineTold, LinkEndpoint, List, LooseUp, Some, State, StationStands, TimedEndpoint, Wire, [], after, ap, append_assoc, beat, contents_at, false, fold-append, inl, inr, is_multiple_frame, length, refl, state_at, arith}
 use Rattle.laws_time.proofs.Vocabulary.{state_number, subst, sym, true, ℕ, ◌++◌, ◌∙◌, ◌∷◌, ◌≡◌, ◌⊎◌}
 use Rattle.laws_wire.specs.Losing.{heard_in}
 use Rattle.laws_time.proofs.OfCircuit.ArrivPath.{of_call, Path}
@@ -9,19 +9,8 @@ use Rattle.laws_time.proofs.OfCircuit.CaughtLaw.{goes-on, shows, Shows, in-7, in
 use Rattle.laws_time.proofs.OfCircuit.CaughtLinks.{Owes}
 use Rattle.laws_time.proofs.OfCircuit.CaughtWire.{UpWith}
 
--- An end that is up is in state 7 or 8.
-seven-or-eight : (s : State) → IsTrue (is_multiple_frame s) → (state_number s ≡ 7) ⊎ (state_number s ≡ 8)
-seven-or-eight Established up = inl refl
-seven-or-eight TimerRecovery up = inr refl
-seven-or-eight TeiAssigned up = absurd (cc up)
-seven-or-eight AwaitingEstablishment up = absurd (cc up)
-seven-or-eight AwaitingRelease up = absurd (cc up)
-
 pub up-in : (l : Line) (a : TimedEndpoint) (s : State) → state_at l a ≡ Some (state_number s) → IsTrue (is_multiple_frame s) → IsUp l a
-up-in l a s is up = elim (seven-or-eight s up) [
-  | inl e ↦ inl (is ∙ ap (λ n. Some n) e)
-  | inr e ↦ inr (is ∙ ap (λ n. Some n) e)
-]
+up-in l a s is up = grind arith
 
 -- The end that asks, and the other one, of a world; as the wire has them, the end that asks is the near one.
 module _ (l : Line) (c d : Config) (face : Face c d) (back : Face d c) (past other : List LineTold) (none : contents_of other ≡ []) (own there : Clocked → TimedEndpoint) where

@@ -16,10 +16,7 @@ module _ (l : Line) (before noisy clean : List Beat) (b c d : Beat) (h : GoesWel
   well = subst (GoesWell l before b) (sym (append_assoc noisy (c ∷ d ∷ []) clean)) h
 
   pub here : in_call l before b (noisy ++ c ∷ d ∷ []) ≡ beat l.rate (begun l (before ++ calls l b ∷ noisy) c) d
-  here =
-      ap (λ bs. after l.rate bs (begins l)) (sym (append_assoc before (calls l b ∷ noisy) (c ∷ d ∷ [])))
-      ∙ fold-append (beat l.rate) (begins l) (before ++ calls l b ∷ noisy) (c ∷ d ∷ [])
-      ∙ ap (λ w. beat l.rate w d) (sym (fold-append (beat l.rate) (begins l) (before ++ calls l b ∷ noisy) (c ∷ [])))
+  here = grind (arith, after, begins, append_assoc, calls, fold-append, beat)
 
 -- The same from the other side.
 module _ (l : Line) (bs clean : List Beat) (c : Beat) (h : IsUndisturbed l bs c clean) where

@@ -1,11 +1,10 @@
 -- An end of the clocked circuit is a timed card of octets that is prompt.
 use Rattle.laws_time.proofs.Vocabulary.{All-from_recursion, AllByRecursion, AreInRange, ArePrompt, Assign, Beat, Clocked, Config, EndsAreTimedCards, Expiry, IsInOrder, IsInTime, IsNoOctetsExpiry as IsNoExpiry, IsPrompt, IsTimedCard, Lengths, List, None, OctetEvent as Event, Option, Request, Some, Step, TimedEndpoint, TimedOctetCard, [], after, after_all, all_due, answered, ap, arith, asks}
-use Rattle.laws_time.proofs.Vocabulary.{at_moment, beat, card_of, comes_to, div-le_self, drop, due, endpoint, fall_due, falls, falls_due, first, first_due, fold, fresh, gone, happens, hears, is_before, length, nat_le, obeyed, octet_at as at, octet_orders as orders_in, octets, option_map_or, refl, step_happens, subst, suc, sym, time, unwrap_or, with_expiry, without_first}
+use Rattle.laws_time.proofs.Vocabulary.{at_moment, beat, card_of, comes_to, div-le_self, drop, due, endpoint, fall_due, falls, falls_due, first, first_due, fold, fresh, gone, happens, hears, is_before, length, obeyed, octet_at as at, octet_orders as orders_in, octets, option_map_or, refl, step_happens, subst, suc, sym, time, unwrap_or, with_expiry, without_first}
 use Rattle.laws_time.proofs.Vocabulary.{without_first_octet, zero, ℕ, ◌++◌, ◌+◌, ◌-◌, ◌/◌, ◌<◌, ◌∙◌, ◌∷◌, ◌≡◌, ◌≤◌}
 use Rattle.model_card.proofs.OfPorts.Steps.{config_after}
 use Rattle.model_card.specs.ports.Port as port
 use Rattle.model_timed.specs.Timed.{after as next}
-use Rattle.laws_time.proofs.Falls.{first-is}
 use Rattle.laws_time.proofs.Moments.{now-stays, lengths-stay}
 use Rattle.laws_time.proofs.OfCircuit.Prompt.{long, all-obeyed, ordered-obeyed, due-obeyed, none-due, one-due, few-due, all-later, div-stays, many_due}
 
@@ -34,11 +33,7 @@ both-prompt [] b t h g = g
 both-prompt (s ∷ a) b t h g = (h.0, both-prompt a b (next octets s t) h.1 g)
 
 pub leads-both : (t u v : TimedOctetCard) → Leads t u → Leads u v → Leads t v
-leads-both t u v h g = record {
-  steps = h.steps ++ g.steps;
-  leads = both-lead h.steps g.steps t ∙ ap (after_all octets g.steps) h.leads ∙ g.leads;
-  prompt = both-prompt h.steps g.steps t h.prompt (subst (ArePrompt octets 0 g.steps) (sym h.leads) g.prompt);
-}
+leads-both t u v h g = grind (arith, both-lead, after_all, octets, both-prompt)
 
 -- An end as it stands: its line is one of the card, its timers are of that line, and none is overdue.
 pub record Stands (s : TimedEndpoint) : Type 0 where
@@ -70,12 +65,10 @@ rest-of P [] all = all
 rest-of P (x ∷ xs) all = all.1
 
 rest-in-order : (xs : List Expiry) → IsInOrder is_before xs → IsInOrder is_before (drop 1 xs)
-rest-in-order [] h = h
-rest-in-order (x ∷ xs) h = h.1
+rest-in-order h h' = grind arith
 
 pub first-of : (P : Expiry → Type 0) (xs : List Expiry) (now : ℕ) (x : Expiry) → AllByRecursion P xs → first_due xs now ≡ Some x → P x
-first-of P [] now x all is = cc is
-first-of P (e ∷ xs) now x all is = subst P (first-is e x (nat_le e.moment now) is) all.0
+first-of h h' now x all is = grind arith
 
 abbrev pub without : TimedEndpoint → TimedEndpoint
 without s = record s { clock = without_first s.clock }
@@ -123,14 +116,7 @@ falls-once s h = go (due s.clock) refl
         }
 
 fell-both : (s u v : TimedEndpoint) (most few : ℕ) → Fell s u most → (many_due u.clock.now u.clock.running ≤ most → Fell u v few) → Fell s v few
-fell-both s u v most few h g =
-    let then = g (subst (λ n. many_due n u.clock.running ≤ most) (sym h.now) h.due) in
-    record {
-      stands = then.stands;
-      leads = leads-both (card_of s) (card_of u) (card_of v) h.leads then.leads;
-      now = then.now ∙ h.now;
-      due = subst (λ n. many_due n v.clock.running ≤ few) h.now then.due;
-    }
+fell-both s u v most few h g = grind (arith, many_due, leads-both, card_of)
 
 pub all-fall : (n : ℕ) (s : TimedEndpoint) → Stands s → many_due s.clock.now s.clock.running ≤ n → Fell s (fall_due n s) 0
 unfolding fall_due
@@ -188,15 +174,7 @@ comes moment rs s h low high =
     let first = time-comes moment s h low high in
     let asked = all-asked rs t first.0 in
     let fell = all-fall (length u.clock.running) u asked.stands (few-due u.clock.now u.clock.running) in
-    record {
-      rests = record {
-        stands = fell.stands;
-        later = all-later (all_due u).clock.now (all_due u).clock.running
-            (subst (λ n. many_due n (all_due u).clock.running ≡ 0) (sym fell.now) (let none = fell.due in omega (arith, none)));
-      };
-      leads = leads-both (card_of s) (card_of t) (card_of (all_due u)) first.1 (leads-both (card_of t) (card_of u) (card_of (all_due u)) asked.leads fell.leads);
-      now = fell.now ∙ asked.now;
-    }
+    grind (arith, all-later, all_due, many_due, leads-both, card_of)
 
 -- Something happens at an end at which nothing is due.
 pub rests-on : (e : port.Event) (s : TimedEndpoint) → Rests s → Rests (happens e s)
@@ -216,10 +194,7 @@ happens-then moment e s u none h = record {
 }
 
 heard-then : (moment : ℕ) (noise : Option ℕ) (way : List ℕ) (s u : TimedEndpoint) → Comes moment s u → Comes moment s (without_first_octet (hears noise way u))
-heard-then moment noise [] s u h = record { rests = record { stands = still u h.rests.stands; later = h.rests.later }; leads = h.leads; now = h.now }
-  where
-    still : (u : TimedEndpoint) → Stands u → Stands (without_first_octet u)
-    still u h = record { within = h.within; ranged = h.ranged; in_order = h.in_order; here = h.here; timely = h.timely }
+heard-then moment noise [] s u h = grind (arith, without_first_octet)
 heard-then moment noise (value ∷ way) s u h =
     let then = happens-then moment (port.octet (unwrap_or noise value)) s u tt h in
     record { rests = record { stands = still (happens (port.octet (unwrap_or noise value)) u) then.rests.stands; later = then.rests.later }; leads = then.leads; now = then.now }
@@ -281,14 +256,7 @@ pub both-begin : (c d : Config) (line other tei way rate : ℕ) (lengths others 
     → Both rate (fresh c lengths) (fresh d others) (record { near = endpoint c line lengths way tei; far = endpoint d other others way tei; beats = 0 })
 both-begin c d line other tei way rate lengths others within within_far ranged ranged_far =
     let near = begins c line tei way lengths within ranged in let far = begins d other tei way others within_far ranged_far in
-    record {
-      near = near.rests;
-      far = far.rests;
-      near_now = near.now ∙ none-yet rate;
-      far_now = far.now ∙ none-yet rate;
-      near_leads = near.leads;
-      far_leads = far.leads;
-    }
+    grind (arith, none-yet)
 
 pub ends-are-timed-cards : EndsAreTimedCards
 ends-are-timed-cards c d line other tei way rate lengths others bs within within_far ranged ranged_far some =

@@ -49,8 +49,7 @@ module _ (c : Config) (service : Service) (tei place : ℕ) (ranged : IsInRange 
     -- T200 runs on.
     still-long : (S : ℕ) (h : Ends c service tei place ranged a.at) (k : Ends c service tei place ranged (circuit.happens ev a.at))
         → IsLong c service tei place ranged lengths rate S h.its a.at.line a.clock → IsLong c service tei place ranged lengths rate S k.its a.at.line (happens ev a).clock
-    still-long S h k long m waits at_m =
-        long m (ap is_waiting (sym (same-state h k)) ∙ waits) (sym (ap (λ (k : Clock). moment_of a.at.line (timers.T200 service tei) k.running) same-clock) ∙ at_m)
+    still-long h h' k long m waits at_m = grind (arith, is_waiting, same-state, moment_of, same-clock)
 
     still-end : (S M M' : ℕ) → M ≤ M' → (h : EndHere S M a) → Moved c service tei place ranged a.at (circuit.happens ev a.at) h.but.ends (λ e. ⊥) → EndHere S M' (happens ev a)
     still-end S M M' less h mv = record {
@@ -107,8 +106,7 @@ module _ (c : Config) (service : Service) (tei place : ℕ) (ranged : IsInRange 
           let k = a.at.card.card.config in
           let e : LinkEvent = link.received (link.frame f) in
           let means : meant_at (octet_at a.at.line (port.octet value)) a.at.card ≡ Some (line.hears (stream.frame octets)) = ap (option_map line.hears) (here (Some (stream.frame octets)) is) in
-          let whole : came k.n201 octets ≡ stream.frame octets =
-          ap (λ (k : Config). came k.n201 octets) h.but.ends.stands.config ∙ ap (λ n. came n octets) (sym size) ∙ ap (came d.n201) own.1 ∙ own.2.carried.whole ∙ ap stream.frame (sym own.1) in
+          let whole : came k.n201 octets ≡ stream.frame octets = grind (arith, came) in
           let read : reading (heard_side k) octets ≡ Ok f = ap (λ (k : Config). reading (heard_side k) octets) h.but.ends.stands.config
           ∙ ap (λ side. reading side octets) side ∙ ap (reading (own_side d)) own.1 ∙ own.2.carried.read in
           let mv = heard-frame c service tei place ranged a.at h.but.ends value d octets f own.1 own.2 side size (here (Some (stream.frame octets)) is) in

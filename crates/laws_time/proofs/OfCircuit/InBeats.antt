@@ -1,5 +1,5 @@
 -- A call without noise, in which no timer falls due: so many beats after the last request all is told.
-use Rattle.laws_time.proofs.Vocabulary.{ACallTakesBeats, AShortCallTakesBeats, All, All-cons, All-head, All-nil, All-tail, All-weaker, AreOctets, AreShort, AsksData, AsksOctets, Beat, CanCall, Carries, Circuit, Clocked, Config, Establish, Fits, Follows, FrameEndpoint, IsClean, IsDataOf, IsInRange, IsToldAll, IsUndue, Line, LineTold, List, NoneFallsDue, OctetEndpoint as Endpoint, Port, Ran, zero}
+use Rattle.laws_time.proofs.Vocabulary.{ACallTakesBeats, AShortCallTakesBeats, All, All-head, All-nil, All-tail, All-weaker, AreShort, AsksData, AsksOctets, Beat, CanCall, Carries, Circuit, Clocked, Config, Establish, Fits, Follows, IsClean, IsDataOf, IsInRange, IsToldAll, IsUndue, Line, LineTold, List, NoneFallsDue, OctetEndpoint as Endpoint, Port, Ran, zero}
 use Rattle.laws_time.proofs.Vocabulary.{Request, TimedEndpoint, [], after, ap, append-nil, arith, as_endpoint, as_wire, asked-as, asked-way, assigned, beat, begins, calls, clean, comes_to, confirmed, doing_all, drop, enough_beats, false, flags, fold, framed, frames_among, fresh_port, goes-on, gone, granted_in, heard_in, idle, indicated, length, length-replicate, longest, many, plain, port-after}
 use Rattle.laws_time.proofs.Vocabulary.{port_of, pulling, refl, replicate, subst, suc, sym, with_first_of, within-ports, ℕ, ◌*◌, ◌++◌, ◌+◌, ◌-◌, ◌/◌, ◌<◌, ◌∙◌, ◌∷◌, ◌≡◌, ◌≤◌}
 use Rattle.model_line.specs.Event as line
@@ -19,12 +19,7 @@ use Rattle.laws_time.proofs.OfCircuit.InBeatsTold.{Comes, all-told, all-told-sho
 
 -- Ends of which the stations are the same.
 pub alike-of : (s u : Endpoint) → as_endpoint [] u ≡ as_endpoint [] s → Alike s u
-alike-of s u same = record {
-  card = ap (λ (x : FrameEndpoint). x.card) same;
-  line = ap (λ (x : FrameEndpoint). x.line) same;
-  granted = ap (λ (x : FrameEndpoint). x.granted) same;
-  told = ap (λ (x : FrameEndpoint). x.told) same;
-}
+alike-of s u same = grind arith
 
 none-among : (k : ℕ) → frames_among (replicate k idle ++ []) ≡ []
 none-among zero = refl
@@ -103,10 +98,7 @@ module _ (l : Line) (c : Config) (ranged : IsInRange c) (number : ℕ) (within :
 
 pub long-both : (l : Line) (near : IsInRange l.near) (far : IsInRange l.far) (x y : Endpoint) → x.way ≡ 0x7E ∷ replicate l.way 0x7E → y.way ≡ 0x7E ∷ replicate l.way 0x7E
     → run.IsLong l near far (both_hear x y)
-long-both l near far x y here there = record {
-  near = ap (λ ws. length (drop 1 ws)) (first-way y.way x ∙ here) ∙ length-replicate {A = ℕ} l.way 0x7E;
-  far = ap length (first-way (with_first_of y.way x).way (without_first y)) ∙ ap (λ ws. length (drop 1 ws)) there ∙ length-replicate {A = ℕ} l.way 0x7E;
-}
+long-both l near far x y here there = grind (arith, length, drop, first-way, length-replicate, with_first_of, without_first)
 
 -- ---- the first beat, at both
 
@@ -186,9 +178,7 @@ module _ (l : Line) (can : CanCall l.near l.near_line l.far l.far_line l.tei) (w
   AllIsTold u = (u.near.at.told ≡ NearDue u.far.at.granted) × (u.far.at.told ≡ FarDue u.near.at.granted)
 
   told-so : (last.near.told ≡ NearDue last.far.granted) × (last.far.told ≡ FarDue last.near.granted) → AllIsTold (clean l.rate n w)
-  told-so told =
-      let z = last-sim in
-      (sym z.near.same.alike.told ∙ told.0 ∙ ap NearDue z.far.same.alike.granted, sym z.far.same.alike.told ∙ told.1 ∙ ap FarDue z.near.same.alike.granted)
+  told-so told = grind (arith, last-sim)
 
   -- So much was granted.
   module _ (g : ℕ) (is : granted_in w - (length v0.near.granted + length v0.far.granted) ≡ g) where
@@ -211,18 +201,12 @@ module _ (l : Line) (can : CanCall l.near l.near_line l.far l.far_line l.tei) (w
 
 module _ (n201 k : ℕ) where
   pub carries-none : (p q : Port) (way : List ℕ) → p ≡ plus k opened → way ≡ replicate k 0x7E ++ 0x7E ∷ [] → q.received ≡ [] → Carries n201 p way q.received []
-  carries-none p q way is same none = record {
-    given = ap (λ (p : Port). p.given) is ∙ sym same ∙ ap (λ r. r ++ way) (sym none);
-    are = ap (λ (p : Port). framed (frames_among p.items)) is ∙ ap framed (none-among k) ∙ sym (ap (λ r. heard_in n201 r ++ framed []) none);
-    octets = subst (λ (p : Port). All AreOctets (frames_among p.items)) (sym is) (subst (All AreOctets) (sym (none-among k)) (All-nil AreOctets));
-  }
+  carries-none p q way is same none = grind (arith, framed, frames_among, none-among, heard_in)
 
 -- What is asked for are octets.
 module _ (l : Line) (can : CanCall l.near l.near_line l.far l.far_line l.tei) (b : Beat) (data_alone : AsksData l b) where
   pub near-octets : All Octets (Establish l.service l.tei ∷ b.near_asks)
-  near-octets =
-      All-cons Octets (Establish l.service l.tei) b.near_asks (All-nil (λ octet. octet < 256))
-      (All-weaker (IsDataOf l) Octets (run.asks-octets l can.near.0 can.far.0) b.near_asks data_alone.0)
+  near-octets = grind arith
 
   pub far-octets : All Octets b.far_asks
   far-octets = All-weaker (IsDataOf l) Octets (run.asks-octets l can.near.0 can.far.0) b.far_asks data_alone.1

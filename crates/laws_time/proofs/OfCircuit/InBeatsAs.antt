@@ -1,10 +1,10 @@
 -- An end of the clocked circuit is one of the circuit without clocks, as if the flags in transit at first had been pulled there.
-use Rattle.laws_time.proofs.Vocabulary.{AsksOctets, Bool, Card, Config, IsInRange, Item, List, None, OctetEndpoint as Endpoint, Option, Port, Ran, Request, Some, [], answer, answer_of, answer_to, answered, ap, append_assoc, card_after, cond, contents_in, drop, frame_begun, frames_among, given_in, goes-on, heard-way, idle, is_some, item_of, left_of, length, low_bits, meant, next_octet, number_of}
-use Rattle.laws_time.proofs.Vocabulary.{octet_pulled, option_map, option_map_or, orders_with, port-after, port_of, ports_after as after, refl, replicate, runs_low, suc, sym, take, told_by, with_first_of, with_item, with_octet, within-ports, zero, ℕ, ◌++◌, ◌<◌, ◌∙◌, ◌∷◌, ◌≡◌}
+use Rattle.laws_time.proofs.Vocabulary.{AsksOctets, Bool, Card, Config, IsInRange, Item, List, OctetEndpoint as Endpoint, Option, Port, Ran, Request, [], answer, answer_of, answer_to, answered, ap, append_assoc, cond, drop, frame_begun, frames_among, given_in, goes-on, heard-way, idle, is_some, item_of, left_of, length, low_bits, meant, next_octet, number_of, arith}
+use Rattle.laws_time.proofs.Vocabulary.{octet_pulled, option_map, option_map_or, orders_with, port-after, port_of, ports_after as after, refl, replicate, runs_low, suc, take, with_first_of, with_item, with_octet, within-ports, zero, ℕ, ◌++◌, ◌<◌, ◌∙◌, ◌∷◌, ◌≡◌}
 use Rattle.model_line.specs.Event as line
 use Rattle.model_card.specs.Event as frames
 use Rattle.model_card.specs.ports.Port as port
-use Rattle.laws_order.specs.circuit.Circuit.{happens, unless_refused, without_first}
+use Rattle.laws_order.specs.circuit.Circuit.{happens, without_first}
 
 -- A port with so many idle flags more, which were put and given first.
 abbrev pub plus : ℕ → Port → Port
@@ -19,34 +19,19 @@ octet-plus : (k : ℕ) (p : Port) → next_octet (plus k p) ≡ next_octet p
 octet-plus k p = ap (λ (bs : List Bool). number_of (take 8 bs)) (left-plus k p)
 
 given-plus : (k : ℕ) (p : Port) → with_octet (plus k p) ≡ plus k (with_octet p)
-given-plus k p =
-    let given = ap (λ v. (replicate k 0x7E ++ p.given) ++ v ∷ []) (octet-plus k p) ∙ append_assoc (replicate k 0x7E) p.given (next_octet p ∷ []) in
-    λ i. record { received = p.received; items = replicate k idle ++ p.items; given = given i }
+given-plus k p = grind (arith, replicate, octet-plus, append_assoc, next_octet)
 
 item-plus : (k : ℕ) (o : Option line.Answer) (p : Port) → with_item o (plus k p) ≡ plus k (with_item o p)
-item-plus k None p = refl
-item-plus k (Some a) p =
-    let items = append_assoc (replicate k idle) p.items (item_of (given_in a) ∷ []) in
-    λ i. record { received = p.received; items = items i; given = replicate k 0x7E ++ p.given }
+item-plus k h p = grind (arith, append_assoc, replicate, item_of, given_in)
 
 pub after-plus : (e : port.Event) (o : Option line.Answer) (k : ℕ) (p : Port) → port.after e o (plus k p) ≡ plus k (port.after e o p)
-after-plus (port.octet value) o k p = refl
-after-plus (port.expiry timer) o k p = refl
-after-plus (port.request r) o k p = refl
-after-plus port.pull o k p = ap with_octet (item-plus k o p) ∙ given-plus k (with_item o p)
+after-plus h o k p = grind (arith, with_octet, item-plus, given-plus, with_item)
 
 meant-plus : (n201 : ℕ) (e : port.Event) (k : ℕ) (p : Port) → port.meant n201 e (plus k p) ≡ port.meant n201 e p
-meant-plus n201 (port.octet value) k p = refl
-meant-plus n201 (port.expiry timer) k p = refl
-meant-plus n201 (port.request r) k p = refl
-meant-plus n201 port.pull k p = ap (λ (bs : List Bool). cond (runs_low bs) (Some line.next) None) (left-plus k p)
+meant-plus n201 h k p = grind (arith, cond, runs_low, left-plus)
 
 pub answer-plus : (e : port.Event) (o : Option line.Answer) (k : ℕ) (p : Port) → port.answer e o (plus k p) ≡ port.answer e o p
-answer-plus (port.octet value) o k p = refl
-answer-plus (port.expiry timer) o k p = refl
-answer-plus (port.request r) o k p = refl
-answer-plus port.pull o k p =
-    ap (λ v. port.pulled v (is_some (frame_begun o)) (option_map_or orders_with (frame_begun o) [])) (ap next_octet (item-plus k o p) ∙ octet-plus k (with_item o p))
+answer-plus h o k p = grind (arith, is_some, frame_begun, option_map_or, orders_with, next_octet, item-plus, octet-plus, with_item)
 
 -- They are no frames.
 pub frames-plus : (k : ℕ) (items : List Item) → frames_among (replicate k idle ++ items) ≡ frames_among items
@@ -56,9 +41,6 @@ frames-plus (suc k) items = frames-plus k items
 -- What a card of frames says to what an event means, and where that leads.
 abbrev pub said_of : Card → ℕ → Option line.Event → Option line.Answer
 said_of card number m = option_map (answer_to card) (option_map (frames.at number) m)
-
-abbrev card_by : Card → ℕ → Option line.Event → Card
-card_by card number m = option_map_or (card_after card) (option_map (frames.at number) m) card
 
 abbrev pub meaning : port.Event → Endpoint → Option line.Event
 meaning e s = port.meant s.card.card.config.n201 e (port_of s)
@@ -76,12 +58,7 @@ module _ (e : port.Event) (s u : Endpoint) (h : Alike s u) (mean : meaning e u �
 
   pub alike-then : answered e u ≡ answered e s → Alike (happens e s) (happens e u)
   unfolding after meant
-  alike-then ans = record {
-    card = λ i. card_by (h.card i) (h.line i) (mean i);
-    line = h.line;
-    granted = λ i. h.granted i ++ unless_refused (ans i) (contents_in e);
-    told = λ i. h.told i ++ told_by (ans i);
-  }
+  alike-then ans = grind arith
 
 -- Layer 3 asks: whatever the ports are.
 pub alike-asked : (r : Request) (s u : Endpoint) → Alike s u → Alike (happens (port.request r) s) (happens (port.request r) u)
@@ -111,8 +88,7 @@ module _ (k : ℕ) (e : port.Event) (s u : Endpoint) (h : As k s u) (inside : s.
   as-event = record {
     alike = alike-then e s u h.alike means answers;
     way = λ i. h.way i ++ octet_pulled (answers i);
-    port = port-after u e inside_u ∙ (λ i. port.after e (says i) (h.port i)) ∙ after-plus e (said_of s.card.card s.line (meaning e s)) k (port_of s)
-        ∙ sym (ap (plus k) (port-after s e inside));
+    port = grind (arith, port-after, says, after-plus, port_of);
   }
 
 -- Both came about by events.
@@ -134,15 +110,7 @@ module _ (k : ℕ) (c : Config) (ranged : IsInRange c) where
 
   -- The first in transit goes.
   pub twin-drop : (s u : Endpoint) → Twin k c s u → Twin k c (without_first s) (without_first u)
-  twin-drop s u h = record {
-    same = record {
-      alike = record { card = h.same.alike.card; line = h.same.alike.line; granted = h.same.alike.granted; told = h.same.alike.told };
-      way = ap (drop 1) h.same.way;
-      port = h.same.port;
-    };
-    ran = ran-way c s (without_first s).way h.ran;
-    there = ran-way c u (without_first u).way h.there;
-  }
+  twin-drop s u h = grind arith
 
   pub twin-first : (way : List ℕ) (s u : Endpoint) → Twin k c s u → Twin k c (with_first_of way s) (with_first_of way u)
   twin-first [] s u h = h
@@ -155,15 +123,10 @@ module _ (k : ℕ) (c : Config) (ranged : IsInRange c) where
       let x = twin-event (port.octet value) tt (without_first s) (without_first u) (twin-drop s u h) in
       let v = happens (port.octet value) s in
       record {
-        same = record {
-          alike = record { card = x.same.alike.card; line = x.same.alike.line; granted = x.same.alike.granted; told = x.same.alike.told };
-          way = x.same.way ∙ heard-way value (without_first s) ∙ sym (ap (drop 1) (heard-way value s));
-          port = x.same.port;
-        };
+        same = grind (arith, heard-way, without_first, drop);
         ran = ran-way c v (without_first v).way (goes-on c s (port.octet value) tt h.ran);
         there = x.there;
       }
 
 pub first-way : (way : List ℕ) (s : Endpoint) → (with_first_of way s).way ≡ s.way
-first-way [] s = refl
-first-way (value ∷ more) s = heard-way value s
+first-way h s = grind (arith, heard-way)

@@ -1,5 +1,5 @@
 -- A call of frames, in which data alone is asked for once one end has asked for the establishment.
-use Rattle.laws_time.proofs.Vocabulary.{All, All-head, All-tail, All-weaker, Assign, CanCall, Config, Data, Establish, FrameEndpoint, LineTold, List, Request, Service, [], ap, append-nil, arith, both_call, calls-come-through, confirmed, data_told, false, indicated, length, map, refl, subst, wire_doing_all, wire_turns, ℕ, ◌||◌, ◌∙◌, ◌∷◌, ◌≡◌}
+use Rattle.laws_time.proofs.Vocabulary.{All, All-head, All-tail, All-weaker, Assign, CanCall, Config, Establish, FrameEndpoint, LineTold, List, Request, Service, [], ap, append-nil, arith, both_call, calls-come-through, confirmed, data_told, false, indicated, length, map, refl, subst, wire_doing_all, wire_turns, ℕ, ◌||◌, ◌∙◌, ◌∷◌, ◌≡◌}
 use Rattle.model_line.specs.Event as line
 use Rattle.laws_wire.specs.Call as call
 use Rattle.laws_wire.specs.Wire as wire
@@ -13,13 +13,7 @@ module _ (service : Service) (tei : ℕ) where
   Talks x = call.IsTalk service tei x
 
   one-call : (x : wire.StepAt) → Talks x → call.IsCall service tei x
-  one-call (wire.at_near (wire.requests (Data s t contents))) is = is
-  one-call (wire.at_far (wire.requests (Data s t contents))) is = is
-  one-call (wire.at_near wire.sends) is = tt
-  one-call (wire.at_far wire.sends) is = tt
-  one-call (wire.at_near wire.receives) is = tt
-  one-call (wire.at_far wire.receives) is = tt
-  one-call other is = absurd is
+  one-call other is = grind arith
 
   pub are-calls : (es : List wire.StepAt) → All Talks es → All (call.IsCall service tei) es
   are-calls = All-weaker Talks (call.IsCall service tei) one-call

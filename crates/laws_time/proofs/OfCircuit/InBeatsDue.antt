@@ -42,8 +42,7 @@ module _ (r : Rule) where
   keeps-asks rs = fold-keeps asks (λ r. Unit {0}) Keeps (λ q u is. keeps-event (port.request q) u) rs (λ k d lt. tt)
 
   keeps-time : (moment : ℕ) (s : TimedEndpoint) → s.clock.now ≤ moment → Keeps s → Keeps (at_time moment s)
-  keeps-time moment s later h =
-      let since = h.since in record { running = weaker (HoldsAt s.clock.now) (HoldsAt moment) (λ x. r.stays s.clock.now moment x.timer x.moment later) s.clock.running h.running; lengths = h.lengths; since = omega (arith, later, since) }
+  keeps-time moment s later h = grind (arith, weaker)
 
   keeps-comes : (moment : ℕ) (rs : List Request) (s : TimedEndpoint) → s.clock.now ≤ moment → Keeps s → Keeps (comes_to moment rs s)
   keeps-comes moment rs s later h =
@@ -52,8 +51,7 @@ module _ (r : Rule) where
       moment rs (λ k d lt. tt) s (keeps-time moment s later h)
 
   keeps-hears : (noise : Option ℕ) (way : List ℕ) (s : TimedEndpoint) → Keeps s → Keeps (hears noise way s)
-  keeps-hears noise [] s h = h
-  keeps-hears noise (value ∷ more) s h = keeps-event (port.octet (unwrap_or noise value)) s h
+  keeps-hears noise h s h' = grind (arith, keeps-event, unwrap_or)
 
 -- The moment after a beat.
 now-asked : (rs : List Request) (s : TimedEndpoint) → (fold asks s rs).clock.now ≡ s.clock.now
@@ -77,14 +75,7 @@ pub record AreOnTime (rate : ℕ) (w : Clocked) : Type 0 where
 
 module _ (rate : ℕ) (some : 1 ≤ rate) where
   pub on-time : (b : Beat) (w : Clocked) → AreOnTime rate (beat rate w b)
-  on-time b w =
-      let moment = w.beats / rate in
-      let n = happens port.pull (comes_to moment b.near_asks w.near) in
-      let f = happens port.pull (comes_to moment b.far_asks w.far) in
-      let x = now-hears b.near_noise f.at.way n ∙ now-pulled (comes_to moment b.near_asks w.near) ∙ now-comes moment b.near_asks w.near in
-      let y = now-hears b.far_noise n.at.way f ∙ now-pulled (comes_to moment b.far_asks w.far) ∙ now-comes moment b.far_asks w.far in
-      let more = (div-stays w.beats rate some).0 in
-      record { near = subst (λ k. k ≤ (w.beats + 1) / rate) (sym x) more; far = subst (λ k. k ≤ (w.beats + 1) / rate) (sym y) more }
+  on-time b w = grind (arith, happens, comes_to, now-hears, now-pulled, now-comes, div-stays)
 
   pub all-on-time : (bs : List Beat) (w : Clocked) → AreOnTime rate w → AreOnTime rate (after rate bs w)
   all-on-time [] w h = h
@@ -153,10 +144,7 @@ module _ (rate : ℕ) (some : 1 ≤ rate) (t : ℕ) where
 -- ---- as the circuit begins
 
 pub begins-on-time : (l : Line) → AreOnTime l.rate (begins l)
-begins-on-time l =
-    let n = now-stays l.near_line (first l.near l.near_line l.lengths l.way).clock (orders_in (answered (port.request (Assign l.tei)) (first l.near l.near_line l.lengths l.way).at)) in
-    let f = now-stays l.far_line (first l.far l.far_line l.far_lengths l.way).clock (orders_in (answered (port.request (Assign l.tei)) (first l.far l.far_line l.far_lengths l.way).at)) in
-    record { near = subst (λ k. k ≤ 0 / l.rate) (sym n) (omega arith); far = subst (λ k. k ≤ 0 / l.rate) (sym f) (omega arith) }
+begins-on-time l = grind (arith, now-stays, first, orders_in, answered)
 
 -- What holds of each timer that is started holds from the start on.
 pub begins-kept : (l : Line) (some : 1 ≤ l.rate) (r q : Rule) → r.lengths ≡ l.lengths → q.lengths ≡ l.far_lengths → r.from ≡ 0 → q.from ≡ 0 → AreKept l.rate some r q (begins l)

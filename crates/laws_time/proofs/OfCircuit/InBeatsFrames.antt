@@ -29,9 +29,7 @@ module _ (n201 m n : ℕ) (p q : Port) (fine_p : Fine n201 p) (fine : Fine n201 
   -- All that was put by then is heard in what was given, once it is given.
   module _ (received transit : List ℕ) (given : q.given ≡ received ++ transit) (few : length (left_of p) ≤ longest_text m) (enough : length p.given + longest m ≤ length received) where
     whole : line_text p.items ++ (flat_map item_text g.new) ≡ bits received ++ (bits transit ++ left_of q)
-    whole =
-        sym (ap line_text g.items ∙ ap (λ b. flag ++ b) (flat_map-append item_text p.items g.new)) ∙ fine.sound.text.text ∙ ap (λ os. bits os ++ left_of q) given
-        ∙ ap (λ b. b ++ left_of q) (bits-append received transit) ∙ append_assoc (bits received) (bits transit) (left_of q)
+    whole = grind (arith, line_text, flag, flat_map-append, item_text, bits, left_of, bits-append, append_assoc)
 
     part : (part : List Bool) × (bits received ≡ line_text p.items ++ part) × ((flat_map item_text g.new) ≡ part ++ (bits transit ++ left_of q))
     part =

@@ -38,8 +38,7 @@ opened-gives = refl
 
 fresh-gives : (o : Option line.Event) → o ≡ None → (s : Endpoint) → (port.after port.pull (said_of s.card.card s.line o) fresh_port ≡ opened) × (octet_pulled (port.answer port.pull (said_of s.card.card s.line o) fresh_port) ≡ 0x7E ∷ [])
 unfolding low_bits
-fresh-gives o none s =
-    (ap (λ o. port.after port.pull (said_of s.card.card s.line o) fresh_port) none, ap (λ o. octet_pulled (port.answer port.pull (said_of s.card.card s.line o) fresh_port)) none)
+fresh-gives o none s = grind arith
 
 -- The first pull at an end.
 module _ (s : Endpoint) (is : port_of s ≡ fresh_port) (inside : s.line < length s.card.ports) where
@@ -122,9 +121,7 @@ module _ (service : Service) (c : Config) (ranged : IsInRange c) (number tei : �
         port-after u port.pull (within-ports c ranged u h.ran) ∙ (λ i. port.after port.pull (says i) (h.port i)) ∙ after-plus port.pull (Some (gave None)) k opened ∙ ap (plus k) more-opened
 
     then-port : port_of (happens port.pull u) ≡ plus (suc k) opened
-    then-port =
-        let items = grows idle k [] in let given = grows 0x7E k (0x7E ∷ []) in
-        its-port ∙ (λ i. record { received = []; items = items i; given = given i })
+    then-port = grind (arith, grows, its-port)
 
     then-way : (happens port.pull u).way ≡ replicate (suc k) 0x7E ++ 0x7E ∷ []
     unfolding answer meant

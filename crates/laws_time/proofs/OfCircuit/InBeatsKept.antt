@@ -1,5 +1,5 @@
 -- Beats without noise, in which anything of the link is asked for and timers fall due, are beats of a circuit without clocks.
-use Rattle.laws_time.proofs.Vocabulary.{All, All-head, All-nil, All-tail, All-weaker, AsksOctets, Beat, Begins, CanCall, Carries, Circuit, ClearBusy, Clocked, Config, Data, Establish, Fits, Follows, IsClean, IsInRange, IsOfLink, IsTalk, IsUndue, Line, List, NoneFallsDue, OctetEndpoint as Endpoint, Option, Port, Release, Request, Service, SetBusy, TimedEndpoint, [], after, answer, answer_of, ap}
+use Rattle.laws_time.proofs.Vocabulary.{All, All-head, All-tail, All-weaker, AsksOctets, Beat, Begins, CanCall, Circuit, Clocked, Config, Fits, Follows, IsClean, IsInRange, IsOfLink, IsTalk, IsUndue, Line, List, NoneFallsDue, OctetEndpoint as Endpoint, Option, Port, Request, Service, TimedEndpoint, [], after, answer, answer_of, ap}
 use Rattle.laws_time.proofs.Vocabulary.{append-nil, arith, asked-way, beat, begins, comes_to, doing_all, fold, goes-on, gone, length, many, many-stay, octet_pulled, one-act, option_map_or, other-way, port-after, port_of, refl, subst, sym, within-ports, ℕ, ◌/◌, ◌<◌, ◌∙◌, ◌∷◌, ◌≡◌}
 use Rattle.model_line.specs.Event as line
 use Rattle.model_card.specs.ports.Port as port
@@ -31,12 +31,7 @@ pub silent-port : (e : port.Event) → IsSilent e → (s : Endpoint) → s.line 
 silent-port e h1z s h2z = grind (arith, port-after)
 
 pub of-octets : (service : Service) (tei : ℕ) (r : Request) → IsOfLink service tei r → AsksOctets (port.request r)
-of-octets service tei (Establish s t) is = All-nil (λ octet. octet < 256)
-of-octets service tei (Release s t) is = All-nil (λ octet. octet < 256)
-of-octets service tei (SetBusy s t) is = All-nil (λ octet. octet < 256)
-of-octets service tei (ClearBusy s t) is = All-nil (λ octet. octet < 256)
-of-octets service tei (Data s t contents) is = is.2
-of-octets service tei other is = absurd is
+of-octets service tei other is = grind arith
 
 module _ (k size : ℕ) (service : Service) (tei : ℕ) (c d : Config) (ranged : IsInRange c) (y : Endpoint) (there back : List (List ℕ)) where
   -- An end of the circuit for a clocked one, with the same in transit.
@@ -50,13 +45,7 @@ module _ (k size : ℕ) (service : Service) (tei : ℕ) (c d : Config) (ranged :
       → Follows size c d (record { near = circuit.happens e u; far = y }) there back
   follows-silent e is octets u h =
       let same = silent-port e is u (within-ports c ranged u h.near) in
-      record {
-        near = goes-on c u e octets h.near;
-        far = h.far;
-        goes = subst (λ p. Carries size p (circuit.happens e u).way (port_of y).received there) (sym same)
-            (subst (λ way. Carries size (port_of u) way (port_of y).received there) (sym (silent-way e is u)) h.goes);
-        comes = subst (λ (p : Port). Carries size (port_of y) y.way p.received back) (sym same) h.comes;
-      }
+      grind (arith, goes-on, circuit.happens, port_of, silent-way)
 
   stood-one : (e : port.Event) → IsSilent e → AsksOctets e → (s : Endpoint) → Stood s → Stood (circuit.happens e s)
   stood-one e is octets s h = record { u = circuit.happens e h.u; twin = twin-event k c ranged e octets s h.u h.twin; follows = follows-silent e is octets h.u h.follows; long = ap length (silent-way e is h.u) ∙ h.long }

@@ -3,7 +3,7 @@ use Rattle.laws_time.proofs.Vocabulary.{All, All-append, All-cons, All-nil, Asks
 use Rattle.lapd_clock.specs.Timer.{Timer}
 use Rattle.laws_time.specs.circuit.WorkedInBeats.{talks}
 use Rattle.laws_time.proofs.OfCircuit.InBeats.{a-call-takes-beats}
-use Rattle.laws_time.proofs.OfCircuit.InBeatsRun.{plain-data, plain-clean}
+use Rattle.laws_time.proofs.OfCircuit.InBeatsRun.{plain-clean}
 use Rattle.laws_time.proofs.OfCircuit.InBeatsDue.{none-at-first}
 
 pub can : CanCall user 0 network 0 0
@@ -20,8 +20,7 @@ pub asks-one : AsksData its_line sends
 asks-one = (All-cons (IsDataOf its_line) (Data Call 0 (0xAB ∷ [])) [] one (All-nil (IsDataOf its_line)), All-nil (IsDataOf its_line))
 
 all-data : All (AsksData its_line) (plain ∷ talks)
-all-data =
-    All-append (AsksData its_line) (replicate 16 plain) (sends ∷ []) (plain-data its_line can.near.0 can.far.0 16) (All-cons (AsksData its_line) sends [] asks-one (All-nil (AsksData its_line)))
+all-data = grind arith
 
 all-clean : All IsClean (plain ∷ talks)
 all-clean = All-append IsClean (replicate 16 plain) (sends ∷ []) (plain-clean 16) (All-cons IsClean sends [] (refl, refl) (All-nil IsClean))

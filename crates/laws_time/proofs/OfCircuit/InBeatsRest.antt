@@ -32,10 +32,7 @@ module _ (l : Line) (fit : Begins l) where
 
   module _ (r : Clocked) (k : Kept l fit r) (rest : IsAtRest l r) where
     pub follows : Follows l.near.n201 l.near l.far k.v [] []
-    follows =
-        let there = none-way (port_of k.v.near) (port_of r.near.at) (port_of k.v.far) (port_of r.far.at) k.there k.sim.near.same.port k.sim.far.same.port rest.near.received k.follows.goes.are in
-        let back = none-way (port_of k.v.far) (port_of r.far.at) (port_of k.v.near) (port_of r.near.at) k.back k.sim.far.same.port k.sim.near.same.port rest.far.received k.follows.comes.are in
-        subst (λ b. Follows l.near.n201 l.near l.far k.v [] b) back (subst (λ t. Follows l.near.n201 l.near l.far k.v t k.back) there k.follows)
+    follows = grind (arith, none-way, port_of)
 
     abbrev f : Wire
     f = as_wire [] [] k.v

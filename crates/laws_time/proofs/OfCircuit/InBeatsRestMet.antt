@@ -1,8 +1,7 @@
 -- A worked link is at rest, and T203 runs on: so after 72 beats more all is told that is granted then. And its SABME comes in nine beats.
-use Rattle.laws_time.proofs.Vocabulary.{All, All-cons, All-nil, AreInRange, AreOpposite, AreShort, AsksData, Beat, Begins, Call, Clock, Clocked, Config, Establish, Expiry, FrameEndpoint as Endpoint, HasReceived, IsAtRest, IsCalmSince, IsClean, IsOfLink, IsSoundCard as IsSound, IsTalk, IsToldSince, Item, List, RunsOn, Some, TimedEndpoint, [], after, ap, arith, as_frames, beat, begins, calls}
+use Rattle.laws_time.proofs.Vocabulary.{All, All-cons, All-nil, AreInRange, AreOpposite, AreShort, AsksData, Beat, Begins, Call, Clocked, Config, Establish, Expiry, FrameEndpoint as Endpoint, HasReceived, IsAtRest, IsCalmSince, IsClean, IsOfLink, IsSoundCard as IsSound, IsTalk, IsToldSince, Item, List, RunsOn, Some, TimedEndpoint, [], after, ap, arith, as_frames, beat, begins, calls}
 use Rattle.laws_time.proofs.Vocabulary.{clean, config, control_of, distance_of, exchanged, fall_due, false, far_clock, frame, frames_among, frames_at, granted_in, header_of, idle, is_busy, its_line, length, line_of, longest, low_bits, map, most_turns, named, near_clock, network, own_frames_at, own_link, plain, port_of, reading as read_by, refl, replicate, rested, runs_until, seq, sound}
 use Rattle.laws_time.proofs.Vocabulary.{state_of, subst, suc, supervisory_of, sym, unnumbered_of, user, zero, ℕ, ◌*◌, ◌++◌, ◌+◌, ◌-◌, ◌<◌, ◌∙◌, ◌∷◌, ◌≡◌, ◌≤◌}
-use Rattle.lapd_clock.specs.Timer.{T203}
 use Rattle.lapd_frame.specs.Reading.{reading}
 use Rattle.lapd_tei.specs.Events as teis
 use Rattle.model_line.specs.Machine as lines
@@ -55,14 +54,7 @@ configs : (rested.near.at.card.card.config ≡ user) × (rested.far.at.card.card
 configs = (config user can.near.0 rested.near.at kept.sim.near.ran, config network can.far.0 rested.far.at kept.sim.far.ran)
 
 speaks : (c : Config) (s u : Endpoint) → IsSound s.card → s.card.config ≡ c → s.line < c.lines → AreSeen s u → Speaks Call 0 s u
-speaks c s u sound_card is within h = record {
-  card = (sound_card, subst (λ (k : Config). s.line < k.lines) (sym is) within);
-  state = h.state;
-  free = h.free;
-  alone = h.alone;
-  received = h.received;
-  owes = λ less. let same = h.acknowledged in absurd (omega (arith, less, same));
-}
+speaks c s u sound_card is within h = grind arith
 
 faces : Face Call 0 (record { near = as_frames rested.near; far = as_frames rested.far })
 faces =
@@ -123,14 +115,9 @@ one-granted : granted_in (after 1 (sends ∷ []) rested) - granted_in rested ≡
 unfolding lines.after lines.answer lines.takes_slot exchanged read_by reading header_of control_of unnumbered_of supervisory_of teis.course teis.refusal seq distance_of named low_bits ports.after ports.answer ports.meant fall_due
 one-granted = refl
 
-abbrev its_t203 : ℕ → Expiry
-its_t203 moment = record { moment = moment; line = 0; timer = T203 Call 0 }
-
 -- T203 of either end, which runs then, falls due later than 73 beats from there.
 late : (moment : ℕ) → 93 ≤ moment → (s : TimedEndpoint) → s.clock ≡ runs_until moment → All (λ (x : Expiry). rested.beats + 73 ≤ x.moment * 1) s.clock.running
-late moment long s is =
-    subst (λ (c : Clock). All (λ (x : Expiry). rested.beats + 73 ≤ x.moment * 1) c.running) (sym is)
-    (All-cons (λ (x : Expiry). rested.beats + 73 ≤ x.moment * 1) (its_t203 moment) [] (omega (arith, long)) (All-nil (λ (x : Expiry). rested.beats + 73 ≤ x.moment * 1)))
+late moment long s is = grind arith
 
 calm : IsCalmSince its_line rings (replicate 19 plain) (sends ∷ [])
 calm =
@@ -166,11 +153,7 @@ unfolding lines.after lines.answer lines.takes_slot exchanged read_by reading he
 rung-items = (refl, refl)
 
 short : AreShort 0 rung.near × AreShort 0 rung.far
-short = (
-  subst (λ items. All (λ (octets : List ℕ). length octets ≤ 4) (frames_among items)) (sym rung-items.0)
-      (All-cons (λ (octets : List ℕ). length octets ≤ 4) (0x00 ∷ 0x01 ∷ 0x7F ∷ []) [] (omega arith) (All-nil (λ (octets : List ℕ). length octets ≤ 4))),
-  subst (λ items. All (λ (octets : List ℕ). length octets ≤ 4) (frames_among items)) (sym rung-items.1) (All-nil (λ (octets : List ℕ). length octets ≤ 4)),
-)
+short = grind (arith, length, frames_among, rung-items)
 
 sabme-comes : HasReceived its_line rung.near (clean 1 9 rung).far × HasReceived its_line rung.far (clean 1 9 rung).near
 sabme-comes =

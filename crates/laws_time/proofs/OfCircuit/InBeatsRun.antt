@@ -1,6 +1,6 @@
 -- The beats of the clocked circuit, without noise and with no timer that falls due, are done on the circuit without clocks.
-use Rattle.laws_time.proofs.Vocabulary.{All, All-cons, All-head, All-nil, All-tail, AsksData, AsksOctets, Beat, Circuit, Clocked, Config, Data, IsClean, IsDataOf, IsInRange, IsUndue, Line, List, None, NoneFallsDue, OctetEndpoint as Endpoint, Option, Request, TimedEndpoint, [], after, ap, asked, asked-way, asks, beat, comes_to, doing_all, due, fall_due, falls, fold, gone, hears, length, many}
-use Rattle.laws_time.proofs.Vocabulary.{many-stay, option_map_or, plain, refl, replicate, subst, suc, sym, unwrap_or, with_first_of, without_first_octet, zero, ℕ, ◌++◌, ◌/◌, ◌∙◌, ◌∷◌, ◌≡◌}
+use Rattle.laws_time.proofs.Vocabulary.{All, All-cons, All-head, All-nil, All-tail, AsksData, AsksOctets, Beat, Circuit, Clocked, Config, IsClean, IsDataOf, IsInRange, IsUndue, Line, List, None, NoneFallsDue, OctetEndpoint as Endpoint, Option, Request, TimedEndpoint, [], after, ap, asked, asked-way, asks, beat, comes_to, doing_all, due, fall_due, falls, fold, gone, hears, length, many, arith}
+use Rattle.laws_time.proofs.Vocabulary.{many-stay, option_map_or, plain, refl, replicate, subst, suc, sym, with_first_of, without_first_octet, zero, ℕ, ◌++◌, ◌/◌, ◌∙◌, ◌∷◌, ◌≡◌}
 use Rattle.model_card.specs.ports.Port as port
 use Rattle.laws_order.specs.circuit.Circuit as circuit
 use Rattle.laws_order.specs.circuit.Circuit.{requests, sends, receives, StepAt, at_near, at_far, without_first}
@@ -59,17 +59,14 @@ undue-stays zero a none = refl
 undue-stays (suc n) a none = ap (λ o. fall_due n (option_map_or (falls a) o a)) none ∙ undue-stays n a none
 
 pub comes-at : (moment : ℕ) (rs : List Request) (a : TimedEndpoint) → IsUndue moment rs a → (comes_to moment rs a).at ≡ fold ask a.at rs
-comes-at moment rs a undue =
-    ap (λ (x : TimedEndpoint). x.at) (undue-stays (length (asked moment rs a).clock.running) (asked moment rs a) undue) ∙ asked-at rs (at_time moment a)
+comes-at moment rs a undue = grind (arith, undue-stays, length, asked, asked-at, at_time)
 
 pub hears-at : (noise : Option ℕ) → noise ≡ None → (way : List ℕ) (a : TimedEndpoint) → (hears noise way a).at ≡ with_first_of way a.at
-hears-at noise none [] a = refl
-hears-at noise none (value ∷ more) a = ap (λ o. circuit.happens (port.octet (unwrap_or o value)) a.at) none
+hears-at noise none h a = grind arith
 
 module _ (l : Line) (here : IsInRange l.near) (there : IsInRange l.far) where
   pub asks-octets : (r : Request) → IsDataOf l r → AsksOctets (port.request r)
-  asks-octets (Data s t contents) is = is.2
-  asks-octets other is = absurd is
+  asks-octets other is = grind arith
 
   pub twin-asks : (k : ℕ) (c : Config) (ranged : IsInRange c) (rs : List Request) → All (IsDataOf l) rs → (s u : Endpoint) → Twin k c s u → Twin k c (fold ask s rs) (fold ask u rs)
   twin-asks k c ranged [] all s u h = h
@@ -120,9 +117,7 @@ module _ (l : Line) (here : IsInRange l.near) (there : IsInRange l.far) where
 
   pub steps-done : (b : Beat) (ds : List StepAt) (v : Circuit) → doing_all (steps_of b ds) v ≡ doing_all ds (beaten b v)
   unfolding doing_all
-  steps-done b ds v =
-      let four = at_near sends ∷ at_far sends ∷ at_near receives ∷ at_far receives ∷ ds in
-      near-done b.near_asks (steps_far b.far_asks four) v ∙ far-done b.far_asks four (record v { near = fold ask v.near b.near_asks })
+  steps-done b ds v = grind (arith, near-done, steps_far, far-done, fold)
 
   -- ---- all of them
 
@@ -154,10 +149,7 @@ module _ (l : Line) (here : IsInRange l.near) (there : IsInRange l.far) where
       let u : Circuit = record { near = fold ask v.near b.near_asks; far = fold ask v.far b.far_asks } in
       let x = many-stay 1 u in
       let same = beaten-many b v in
-      record {
-        near = ap (λ (z : Circuit). length z.near.way) (sym same) ∙ x.near ∙ ap length (way-asked b.near_asks v.near) ∙ h.near;
-        far = ap (λ (z : Circuit). length z.far.way) (sym same) ∙ x.far ∙ ap length (way-asked b.far_asks v.far) ∙ h.far;
-      }
+      grind (arith, length, way-asked)
 
   pub all-long : (bs : List Beat) (v : Circuit) → IsLong v → IsLong (doing_all (all_steps bs) v)
   unfolding doing_all all_steps
@@ -170,8 +162,7 @@ module _ (l : Line) (here : IsInRange l.near) (there : IsInRange l.far) where
   IsData x = IsDataAt l.service l.tei x
 
   data-one : (r : Request) → IsDataOf l r → IsData (at_near (requests r)) × IsData (at_far (requests r))
-  data-one (Data s t contents) is = (is, is)
-  data-one other is = absurd is
+  data-one other is = grind arith
 
   data-near : (rs : List Request) → All (IsDataOf l) rs → (ds : List StepAt) → All IsData ds → All IsData (steps_near rs ds)
   unfolding steps_near

@@ -27,8 +27,7 @@ all-small m (frame octets ∷ items) h =
     (all-small m items (All-tail (λ (octets : List ℕ). length octets ≤ m + 4) octets (frames_among items) h))
 
 pub left-few : (m : ℕ) (p : Port) → IsCut p.items p.given → All (λ item. item_octets item ≤ m + 4) p.items → length (left_of p) ≤ longest_text m
-left-few m p (inl none) small =
-    let all = ap (λ items. length (line_text items)) none in let left = length-drop (length (bits p.given)) (line_text p.items) in omega (arith, all, left)
+left-few m p (inl none) small = grind (arith, length, line_text, length-drop, bits)
 left-few m p (inr h) small =
     let all = ap (λ items. length (line_text items)) h.items_are ∙ line-longer h.front h.last in
     let its = subst (All (λ item. item_octets item ≤ m + 4)) h.items_are small in
@@ -102,8 +101,7 @@ module _ (size way m : ℕ) (service : Service) (tei : ℕ) (c d : Config) (fits
   its-cut true w there back h = (on-line d fits_far.ranged w.far h.far).cut
 
   its-short : (b : Bool) (w : Circuit) → AreShortAt m (port_of w.near) → AreShortAt m (port_of w.far) → AreShortAt m (port_of (sender b w))
-  its-short false w here there = here
-  its-short true w here there = there
+  its-short h w here there = grind arith
 
   pub few-of-short : (n : ℕ) (w : Circuit) (there back : List (List ℕ)) → Follows size c d w there back → AreShortAt m (port_of (doing_all (many n) w).near) → AreShortAt m (port_of (doing_all (many n) w).far)
       → AreFew size way m n w

@@ -1,6 +1,6 @@
 -- On the circuit without clocks: in how many beats all is told, if so many turns are left for it at most.
-use Rattle.laws_time.proofs.Vocabulary.{All, All-append, All-cons, All-head, All-nil, All-tail, All-weaker, AreFew, AreOctets, Bool, Circuit, Config, Data, Done, Fits, Follows, IsBeginningOf, IsStill, LineTold, List, None, OctetEndpoint as Endpoint, Service, Some, Wire, [], acts-append, all-done, all-few, all-paid, ap, append-nil, append_assoc, append_cancel_left, arith, as_wire, block, cond}
-use Rattle.laws_time.proofs.Vocabulary.{doing-append, doing_all, doing_meant, doings_meant, false, few-fewer, front-none, gained, hearing_means, is_due, is_some, length, longest, many, many-add, many-append, meant-append, on_ways, option_map, option_to_list, port_of, subst, suc, suc-mul, sym, takings, takings-append, true, wire_doing_all, wire_turns, ℕ, ◌*◌, ◌++◌, ◌+◌, ◌-◌, ◌∙◌, ◌∷◌, ◌≡◌, ◌≤◌}
+use Rattle.laws_time.proofs.Vocabulary.{All, All-append, All-head, All-nil, All-tail, All-weaker, AreFew, AreOctets, Circuit, Config, Data, Done, Fits, Follows, IsBeginningOf, IsStill, LineTold, List, Service, Wire, [], acts-append, all-done, all-few, all-paid, ap, append-nil, append_assoc, append_cancel_left, arith, as_wire, block}
+use Rattle.laws_time.proofs.Vocabulary.{doing-append, doing_all, doing_meant, doings_meant, few-fewer, front-none, length, longest, many, many-add, many-append, meant-append, on_ways, option_to_list, port_of, subst, suc, suc-mul, sym, takings, takings-append, wire_doing_all, wire_turns, ℕ, ◌*◌, ◌++◌, ◌+◌, ◌-◌, ◌∙◌, ◌∷◌, ◌≡◌, ◌≤◌}
 use Rattle.laws_wire.specs.Call as call
 use Rattle.laws_wire.specs.Wire as wire
 use Rattle.laws_order.specs.circuit.Circuit.{Step, requests, sends, receives, StepAt, at_near, at_far, doing}
@@ -11,8 +11,7 @@ use Rattle.laws_time.proofs.OfCircuit.InBeatsShort.{AreShortAt, few-of-short}
 -- What was told stays told.
 pub front-is-all : (all told now more rest : List LineTold) → told ≡ all → now ≡ told ++ more → now ++ rest ≡ all → now ≡ all
 front-is-all all told now more rest same grown beginning =
-    let long : all ++ (more ++ rest) ≡ all ++ [] =
-    sym (append_assoc all more rest) ∙ ap (λ l. (l ++ more) ++ rest) (sym same) ∙ ap (λ l. l ++ rest) (sym grown) ∙ beginning ∙ sym (append-nil all) in
+    let long : all ++ (more ++ rest) ≡ all ++ [] = grind (arith, append_assoc, append-nil) in
     grown ∙ ap (λ l. told ++ l) (front-none more rest (append_cancel_left all (more ++ rest) [] long)) ∙ append-nil told ∙ same
 
 -- ---- data alone is asked for
@@ -29,13 +28,7 @@ module _ (service : Service) (tei : ℕ) where
   IsDataAt (at_far act) = IsDataStep act
 
   one-talk : (x : StepAt) → IsDataAt x → IsTalk service tei x
-  one-talk (at_near (requests (Data s t contents))) is = is
-  one-talk (at_far (requests (Data s t contents))) is = is
-  one-talk (at_near sends) is = tt
-  one-talk (at_far sends) is = tt
-  one-talk (at_near receives) is = tt
-  one-talk (at_far receives) is = tt
-  one-talk other is = absurd is
+  one-talk other is = grind arith
 
   pub are-talk : (ds : List StepAt) → All IsDataAt ds → All (IsTalk service tei) ds
   are-talk = All-weaker IsDataAt (IsTalk service tei) one-talk
@@ -43,26 +36,8 @@ module _ (service : Service) (tei : ℕ) where
   abbrev IsWireTalk : wire.StepAt → Type 0
   IsWireTalk x = call.IsTalk service tei x
 
-  if-sends : (b : Bool) → All IsWireTalk (option_to_list (option_map wire.at_near (cond b (Some wire.sends) None))) × All IsWireTalk (option_to_list (option_map wire.at_far (cond b (Some wire.sends) None)))
-  if-sends true = (All-cons IsWireTalk (wire.at_near wire.sends) [] tt (All-nil IsWireTalk), All-cons IsWireTalk (wire.at_far wire.sends) [] tt (All-nil IsWireTalk))
-  if-sends false = (All-nil IsWireTalk, All-nil IsWireTalk)
-
-  if-receives : (b : Bool) → All IsWireTalk (option_to_list (option_map wire.at_near (cond b (Some wire.receives) None))) × All IsWireTalk (option_to_list (option_map wire.at_far (cond b (Some wire.receives) None)))
-  if-receives true = (All-cons IsWireTalk (wire.at_near wire.receives) [] tt (All-nil IsWireTalk), All-cons IsWireTalk (wire.at_far wire.receives) [] tt (All-nil IsWireTalk))
-  if-receives false = (All-nil IsWireTalk, All-nil IsWireTalk)
-
-  if-hears : (way : List ℕ) (s : Endpoint) → All IsWireTalk (option_to_list (option_map wire.at_near (hearing_means way s))) × All IsWireTalk (option_to_list (option_map wire.at_far (hearing_means way s)))
-  if-hears [] s = (All-nil IsWireTalk, All-nil IsWireTalk)
-  if-hears (value ∷ more) s = if-receives (is_some (gained s.card.card.config.n201 (port_of s).received value))
-
   pub one-meant : (x : StepAt) → IsDataAt x → (w : Circuit) → All IsWireTalk (option_to_list (doing_meant x w))
-  one-meant (at_near (requests (Data s t contents))) is w = All-cons IsWireTalk (wire.at_near (wire.requests (Data s t contents))) [] (is.0, is.1) (All-nil IsWireTalk)
-  one-meant (at_far (requests (Data s t contents))) is w = All-cons IsWireTalk (wire.at_far (wire.requests (Data s t contents))) [] (is.0, is.1) (All-nil IsWireTalk)
-  one-meant (at_near sends) is w = (if-sends (is_due (port_of w.near))).0
-  one-meant (at_far sends) is w = (if-sends (is_due (port_of w.far))).1
-  one-meant (at_near receives) is w = (if-hears w.far.way w.near).0
-  one-meant (at_far receives) is w = (if-hears w.near.way w.far).1
-  one-meant other is w = absurd is
+  one-meant other is w = grind arith
 
   pub all-meant : (ds : List StepAt) → All IsDataAt ds → (w : Circuit) → All IsWireTalk (doings_meant ds w)
   unfolding doings_meant
@@ -201,9 +176,7 @@ module _ (service : Service) (tei : ℕ) where
 
       pub all-told : length (doing_all ds begun).near.way ≤ way → length (doing_all ds begun).far.way ≤ way
           → (most + 2 * (granted_of (doing_all ds begun) - granted_of begun)) * (longest size + (longest size + way)) ≤ n → NearAll (now n) × FarAll (now n)
-      all-told few few_far enough =
-          all-told-by size
-          (all-few size way service tei c d fits fits_far (suc (most + 2 * (granted_of w - granted_of begun)) * block size way size) w first.there' first.back' first.follows) few few_far enough
+      all-told few few_far enough = grind (arith, all-told-by, all-few, block, first)
 
       -- and they are such in so many beats, if those that were put on the lines by then are
       pub all-told-short : (m : ℕ) → AreShortAt m (port_of (now n).near) → AreShortAt m (port_of (now n).far)

@@ -218,17 +218,7 @@ module _ (c : Config) (service : Service) (tei : ℕ) (ranged : IsInRange c) (le
         fell-told = expired-told c service tei 0 ranged a.at h.but.ends timer its aims
 
         fell-said : state_number fell_mv.ends.its.state ≡ 4 → IsUntold (circuit.happens (port.expiry timer) a.at).told → ⊥
-        fell-said four none = go x.rings
-          where
-            parts : IsUntold a.at.told × IsUntold (said_by (links.course (terms c service tei) (link.expired its) h.but.ends.its))
-            parts = untold-parts a.at.told (said_by (links.course (terms c service tei) (link.expired its) h.but.ends.its)) (subst IsUntold fell-told none)
-
-            then_four : state_number (links.after (terms c service tei) (link.expired its) h.but.ends.its).state ≡ 4
-            then_four = ap (λ (l : Link). state_number l.state) (sym (fell_mv.link_is ∙ ap (λ v. option_map_or (λ e. links.after (terms c service tei) e h.but.ends.its) v h.but.ends.its) its-event)) ∙ four
-
-            go : Rings h.but.ends.its.state → ⊥
-            go (inl five) = given-up (terms c service tei) its h.but.ends.its five then_four parts.1
-            go (inr was) = x.said was parts.0
+        fell-said four none = grind (arith, said_by, links.course, terms, untold-parts, fell-told, state_number, links.after, state, fell_mv, option_map_or, its-event, given-up)
 
         expired-kept : ((lost (circuit.happens (port.expiry timer) a.at) ≤ base) → state_number h.but.ends.its.state ≡ 5 → state_number fell_mv.ends.its.state ≡ 5 → IsDue (happens (port.expiry timer) gone) fell_mv.ends)
             → Then (port.expiry timer) (record a { clock = without_first a.clock })

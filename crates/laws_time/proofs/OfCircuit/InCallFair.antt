@@ -1,6 +1,6 @@
 -- In the first (N200 + 1) T200 of a call N200 is not used up, whatever noise there is.
 use Rattle.laws_time.proofs.Vocabulary.{All, All-cons, All-head, All-tail, All-weaker, AreAsked, AreClear, ArePrompt, Beat, Clocked, Config, Establish, FrameEndpoint, IsFit, IsInRange, IsOfLink, IsShortAt, IsTalk, Lengths, Line, Link, List, N200LastsInACall, Service, Some, TimedEndpoint, TimedOctetCard, [], after, after_all, ap, arith, beat, begins, calls, card_of, cases_lt, data_told, errors_at}
-use Rattle.laws_time.proofs.Vocabulary.{false, fold-append, fresh, fresh_link, gone, inl, inr, is_used_up, length, line_at, link_in, list_any, list_any-append, lt-div-mul-add, map, mul-div-le, mul-le, news, octets, of_octets, refl, state, state_number, subst, sym, tries, ℕ, ◌*◌, ◌++◌, ◌+◌, ◌-◌, ◌/◌, ◌<◌, ◌||◌, ◌∙◌, ◌∷◌, ◌≡◌, ◌≤◌, ◌⊎◌}
+use Rattle.laws_time.proofs.Vocabulary.{false, fold-append, fresh, fresh_link, gone, is_used_up, length, line_at, link_in, list_any, list_any-append, lt-div-mul-add, map, mul-div-le, mul-le, news, octets, of_octets, refl, state, state_number, subst, sym, tries, ℕ, ◌*◌, ◌++◌, ◌+◌, ◌-◌, ◌/◌, ◌<◌, ◌∙◌, ◌∷◌, ◌≡◌, ◌≤◌}
 use Rattle.laws_wire.specs.Call as call
 use Rattle.laws_wire.proofs.Beginning.{answers}
 use Rattle.laws_time.proofs.ArrivalsErrors.{Used}
@@ -20,18 +20,7 @@ use Rattle.laws_time.proofs.OfCircuit.Turned.{fit-turned, turned_beat, turned_li
 
 -- Beats of a call are fewer than so many milliseconds.
 pub fewer : (n b rate X : ℕ) → 1 ≤ rate → b + rate ≤ X * rate → (n + b) / rate < n / rate + X
-fewer n b rate X some short =
-    let whole = lt-div-mul-add {a = n} {b = rate} some in
-    let low = mul-div-le (n + b) rate in
-    by (n / rate) ((n + b) / rate) (cases_lt ((n + b) / rate) (n / rate + X)) low (omega (arith, whole))
-  where
-    by : (q d : ℕ) → (d < q + X) ⊎ (q + X ≤ d) → rate * d ≤ n + b → n < rate * q + rate → d < q + X
-    by q d (inl less) low high = less
-    by q d (inr more) low high =
-        let up = mul-le (q + X) rate d rate more (omega arith) in
-        let is : (q + X) * rate ≡ rate * q + X * rate = grind arith in
-        let other : d * rate ≡ rate * d = grind arith in
-        absurd (omega (arith, up, is, other, low, high, short))
+fewer n b rate h some short = grind (arith, lt-div-mul-add, mul-div-le, cases_lt, mul-le)
 
 abbrev WalksIn : Line → TimedEndpoint → TimedEndpoint → Type 0
 WalksIn l a u = Walks l.service l.tei a u
@@ -151,5 +140,4 @@ n200-lasts-in-a-call l before bs b fit nothing all clear short =
     let idle = all-idle l fit before nothing (begins l) (idle-begins l fit) parts.0 in
     let both : after l.rate (before ++ calls l b ∷ bs) (begins l) ≡ after l.rate (calls l b ∷ bs) v = fold-append (beat l.rate) (begins l) before (calls l b ∷ bs) in
     let fair = both-fair l bs b fit all v idle parts.1 short in
-    subst (λ (w : Clocked). list_any is_used_up (errors_at w.near ++ errors_at w.far) ≡ false) (sym both)
-    (list_any-append is_used_up (errors_at (after l.rate (calls l b ∷ bs) v).near) (errors_at (after l.rate (calls l b ∷ bs) v).far) ∙ (λ i. fair.0 i || fair.1 i))
+    grind (arith, list_any, is_used_up, errors_at, list_any-append, after, calls)

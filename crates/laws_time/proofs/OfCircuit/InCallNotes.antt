@@ -1,6 +1,6 @@
 -- An event of a line: if no T200 but that of one link expires there, no other link tells that N200 is used up.
 use Rattle.laws_time.proofs.Vocabulary.{Answer, AreAtLines, Bool, Config, Error, Event, IsInRange, List, Note, Observed, Service, T200, Timer, [], ap, arith, at, by_event, cond, eq-eqb, expiry, false, filter, flat_map-append, in_state, inl, inr, is_news, is_on, is_timer_of, is_waiting, list_any-append, moment_at, news-is-told-so, next, not, notes_due}
-use Rattle.laws_time.proofs.Vocabulary.{notes_of, own-is, refl, request, sym, true, true≢false, view_behind, view_of, ℕ, ◌++◌, ◌<◌, ◌==◌, ◌∙◌, ◌∷◌, ◌≡◌, ◌⊎◌}
+use Rattle.laws_time.proofs.Vocabulary.{notes_of, own-is, refl, request, sym, true, true≢false, view_behind, view_of, ℕ, ◌++◌, ◌<◌, ◌∙◌, ◌∷◌, ◌≡◌, ◌⊎◌}
 use Rattle.lapd_frame.specs.declared.timers.Timer.TheVariants as timers
 use Rattle.model_line.specs.Event as line_event
 use Rattle.model_line.specs.Event.{hears}
@@ -72,10 +72,7 @@ module _ (c : Config) (number : ℕ) (ranged : IsInRange c) (within : number < c
     news-due = news-is-told-so c (events ++ at number what ∷ []) number ranged then within service tei events what [] refl
 
     used-own : Used (filter (is_news service tei) (notes_of said)) ≡ true → is_own_t200 service tei what ≡ true
-    used-own is = by (used-means c service tei o q what said (ap Used (sym news-due) ∙ is))
-      where
-        by : ((timer : Timer) × (what ≡ expiry timer) × (is_waiting o.state ≡ true) × ((o.state == q.state) ≡ false) × ((q.state == 1) ≡ false)) → is_own_t200 service tei what ≡ true
-        by h1z = grind (arith, q-by, expiry-means)
+    used-own is = grind (arith, used-means, news-due, is_waiting, is_own_t200, q-by, expiry-means)
 
   pub all-own : (service : Service) (tei : ℕ) → ((timer : Timer) → what ≡ expiry timer → is_timer_of service tei timer ≡ true) → Used (filter (is_news service tei) (notes_of said)) ≡ false → Used (notes_of said) ≡ false
   all-own service tei ours none = none-used (notes_of said) each

@@ -1,7 +1,6 @@
 -- In a call on the circuit the end that calls rings, in state 5, and has heard nothing; or both ends are up.
-use Rattle.laws_time.proofs.Vocabulary.{false, AwaitingEstablishment, AwaitingRelease, Bool, Called, Clocked, Config, ControlFrame, Established, Face, FrameEndpoint, Held, IsFit, IsInRange, IsInRangeTerms, IsUp, Line, LineTold, Link, LinkEndpoint, List, Parts, Service, Some, State, StationStands, StepAt, TeiAssigned, TimedEndpoint, TimerRecovery, WasTold, Wire, [], ap, at_far, at_near, calling}
-use Rattle.laws_time.proofs.Vocabulary.{cond}
-use Rattle.laws_time.proofs.Vocabulary.{confirmed, data_told, doing, end, error_f, expires, indicated, inl, inr, is_multiple_frame, its_sabme, length, line_at, link_in, loses, map, patient-goes, receives, refl, regranted, renewed, requests, ringing, sabme, seeing, seen, sends, setting, state_at, state_number, subst, sym, takes_sabme, terms, true, true≢false, uncalled, with_sabme, ℕ, ◌++◌, ◌==◌}
+use Rattle.laws_time.proofs.Vocabulary.{Bool, Called, Clocked, Config, ControlFrame, Face, FrameEndpoint, Held, IsFit, IsInRange, IsInRangeTerms, IsUp, Line, LineTold, Link, LinkEndpoint, List, Parts, Service, Some, StationStands, StepAt, TimedEndpoint, WasTold, Wire, [], ap, calling, arith}
+use Rattle.laws_time.proofs.Vocabulary.{confirmed, data_told, doing, end, indicated, inl, inr, is_multiple_frame, its_sabme, length, line_at, link_in, map, patient-goes, refl, regranted, ringing, sabme, seeing, seen, setting, state_at, state_number, subst, sym, terms, true, true≢false, uncalled, ℕ, ◌++◌, ◌==◌}
 use Rattle.laws_time.proofs.Vocabulary.{◌∙◌, ◌∷◌, ◌≡◌, ◌⊎◌}
 use Rattle.laws_wire.specs.Losing.{heard_in}
 use Rattle.laws_wire.proofs.Ringing.{Tries}
@@ -12,13 +11,6 @@ use Rattle.laws_time.proofs.OfCircuit.ArrivRun.{Reached}
 use Rattle.laws_time.proofs.OfCircuit.Standing.{Ends}
 use Rattle.laws_time.proofs.OfCircuit.Under.{state-here}
 use Rattle.laws_time.proofs.OfCircuit.LongEnough.{Pair}
-
-up-number : (s : State) → is_multiple_frame s ≡ true → (state_number s ≡ 7) ⊎ (state_number s ≡ 8)
-up-number Established up = inl refl
-up-number TimerRecovery up = inr refl
-up-number TeiAssigned up = absurd (cc up)
-up-number AwaitingEstablishment up = absurd (cc up)
-up-number AwaitingRelease up = absurd (cc up)
 
 -- The link of an end is that of its station.
 module _ (c : Config) (service : Service) (tei : ℕ) (ranged : IsInRange c) (a : TimedEndpoint) (ends : Ends c service tei 0 ranged a.at) (there : List (List ℕ)) (ts : List LineTold) (x : FrameEndpoint)
@@ -53,22 +45,8 @@ module _ (service : Service) (tei : ℕ) (c d : Config) (p q : ℕ) (face : Face
   abbrev pub Begins : List LineTold → Type 0
   Begins told = (told ≡ []) ⊎ ((rest : List LineTold) × (told ≡ indicated service tei ∷ rest))
 
-  one-more : (told : List LineTold) (other : LineTold) → Begins told → Begins (told ++ cond (length told == 0) (indicated service tei) other ∷ [])
-  one-more told other (inl none) = inr ([], ap (λ ts. ts ++ cond (length ts == 0) (indicated service tei) other ∷ []) none)
-  one-more told other (inr (rest, is)) =
-      let last = cond (length told == 0) (indicated service tei) other in (inr (rest ++ last ∷ [], ap (λ ts. ts ++ last ∷ []) is))
-
   begins-step : (x : Called) (k : StepAt) (w : Wire) → Begins x.told → Begins (seeing service tei k w x).told
-  begins-step x (at_near act) w h = h
-  begins-step x (at_far (requests r)) w h = h
-  begins-step x (at_far (expires timer)) w h = h
-  begins-step x (at_far sends) w h = h
-  begins-step x (at_far receives) w h = go (takes_sabme w)
-    where
-      go : (b : Bool) → Begins (cond b (with_sabme service tei (length w.far.granted) x) x).told
-      go true = one-more x.told (cond x.sent (renewed service tei) (error_f service tei)) h
-      go false = h
-  begins-step x (at_far loses) w h = h
+  begins-step x h w h' = grind arith
 
   pub begins-all : (ds : List StepAt) (w : Wire) (x : Called) → Begins x.told → Begins (seen service tei ds w x).told
   unfolding seen
@@ -79,16 +57,7 @@ module _ (service : Service) (tei : ℕ) (c d : Config) (p q : ℕ) (face : Face
   called-in past rest begun b v (inl h) = inl (rings-in (run.Away service tei c d p q face back rt ru past b) v h)
   called-in past rest begun b v (inr (inl h)) = inl (record { repeats = h.repeats; waiting = []; way = []; near = h.near })
   called-in past rest begun b v (inr (inr (inl h))) = inl (record { repeats = h.repeats; waiting = []; way = []; near = h.near })
-  called-in past rest begun b v (inr (inr (inr h))) = inr (record {
-    n = h.n;
-    m = h.m;
-    near_told = (map (data_told service tei) h.n.delivered, h.near.heard);
-    far_told = (rest ++ map (data_told service tei) h.m.delivered, h.far.heard ∙ ap (λ ts. ts ++ map (data_told service tei) h.m.delivered) begun);
-    near = h.near.stands;
-    far = h.far.stands;
-    near_up = h.loose.joined.near_up;
-    far_up = h.loose.joined.far_up;
-  })
+  called-in past rest begun b v (inr (inr (inr h))) = grind (arith, map, data_told)
 
   pub phase-in : (x : Called) (v : Wire) → Begins x.told → run.Phase service tei c d p q face back rt ru x v → Rung v ⊎ BothUp v
   phase-in x v first (inl (told, sent, h)) = inl (rings-in (run.Down service tei c d p q face back rt ru) v h)
@@ -129,11 +98,7 @@ module _ (l : Line) (fit : IsFit l) (w : Clocked) (pair : Pair l fit w) (r : Rea
   CameThrough = IsUp l w.near × IsUp l w.far × WasTold (confirmed l.service l.tei) w.near × WasTold (indicated l.service l.tei) w.far
 
   up-at : (a : TimedEndpoint) (n : LinkEndpoint) → state_at l a ≡ Some (state_number n.link.state) → is_multiple_frame n.link.state ≡ true → IsUp l a
-  up-at a n is up = go (up-number n.link.state up)
-    where
-      go : (state_number n.link.state ≡ 7) ⊎ (state_number n.link.state ≡ 8) → IsUp l a
-      go (inl e) = inl (is ∙ ap (λ n. Some n) e)
-      go (inr e) = inr (is ∙ ap (λ n. Some n) e)
+  up-at a n is up = grind arith
 
   pub in-call : ((state_at l w.near ≡ Some 5) × (heard_of w.near.at.told ≡ [])) ⊎ ((heard_of w.near.at.told ≡ [] → ⊥) × CameThrough)
   in-call = go (phase-in l.service l.tei l.near l.far 0 0 (setting l.service l.near l.far l.near_line l.far_line l.tei fit.call).face (setting l.service l.near l.far l.near_line l.far_line l.tei fit.call).back (setting l.service l.near l.far l.near_line l.far_line l.tei fit.call).near (setting l.service l.near l.far l.near_line l.far_line l.tei fit.call).far x goes.v

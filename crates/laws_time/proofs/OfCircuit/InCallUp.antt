@@ -69,9 +69,7 @@ module _ (l : Line) (before noisy clean : List Beat) (b c : Beat) (nothing : All
         all-left (AreAsked l) (b ∷ noisy ++ c ∷ done) rest (subst (All (AreAsked l)) (ap (λ bs. b ∷ bs) (sym (append_assoc noisy (c ∷ done) rest ∙ ap (λ bs. noisy ++ c ∷ bs) all))) asked)
 
     some-short : IsShort l (length (noisy ++ c ∷ done))
-    some-short =
-        let few = length-append noisy (c ∷ done) in let many = length-append noisy (c ∷ clean) in let parts = sym (ap length all) ∙ length-append done rest in
-        let near = short.0 in let far = short.1 in (omega (arith, few, many, parts, near), omega (arith, few, many, parts, far))
+    some-short = grind (arith, length-append, length)
 
     pair : Pair l h.fit (after l.rate some (begins l))
     pair =
@@ -208,9 +206,7 @@ module _ (l : Line) (before noisy clean later : List Beat) (b c : Beat) (h : Out
   asked-first = all-left (AreAsked l) (b ∷ noisy ++ c ∷ clean) later h.asked
 
   short-first : IsShort l (length (noisy ++ c ∷ clean))
-  short-first =
-      let parts = length-append (noisy ++ c ∷ clean) later in
-      let near = h.short.0 in let far = h.short.1 in (omega (arith, parts, near), omega (arith, parts, far))
+  short-first = grind (arith, length-append)
 
   up-first : CameThrough l up_by
   up-first =
@@ -231,9 +227,7 @@ module _ (l : Line) (before noisy clean later : List Beat) (b c : Beat) (h : Out
   last-world = grind (arith, same-beats, fold-append, first-world)
 
   whole-clear : AreClear l all_beats (begins l)
-  whole-clear =
-      subst (λ bs. AreClear l bs (begins l)) (sym same-beats)
-      (clear-both l (start ++ c ∷ clean) later (begins l) h.undisturbed.clear (subst (AreClear l later) (sym first-world) h.clear))
+  whole-clear = grind (arith, begins, same-beats, clear-both, first-world)
 
   later-talk : All (IsTalk l) later
   later-talk = talk-all l h.undisturbed.fit later (all-right (AreAsked l) (b ∷ noisy ++ c ∷ clean) later h.asked)

@@ -1,8 +1,7 @@
 -- Prompt steps from one end of the circuit to another. If its link's N200 is not used up by them, no error that says so is told there.
 use Rattle.laws_time.proofs.Vocabulary.{All, ArePrompt, Bool, Card, Config, Expiry, IsInRange, IsNoOctetsExpiry as IsNoExpiry, IsOfLink, Lengths, LineTold, List, None, Note, OctetEvent as Event, Option, Port, Request, Service, Some, Step, TimedEndpoint, TimedOctetCard, Timer, [], after_all, answered, ap, append-nil, append_assoc, arith, asks, card_of, comes_to, cond, due, eq-eqb, error_in}
-use Rattle.laws_time.proofs.Vocabulary.{expiry_at, falls, falls_due, false, filter, flat_map, gained, happens, hears, is_due, is_news, is_timer_of, is_used_up, list_any, list_any-append, news, news_in, notes_in, notes_of, octet_at, octets, of_octets, option_map, option_map_or, port_of, refl, step_happens, subst, sym, tells_nothing, told_by, true, unwrap_or, with_expiry, without_first_octet, ℕ}
-use Rattle.laws_time.proofs.Vocabulary.{◌*◌, ◌++◌, ◌+◌, ◌<◌, ◌||◌, ◌∙◌, ◌∷◌, ◌≡◌, ◌≤◌}
-use Rattle.model_bits.specs.Stream as stream
+use Rattle.laws_time.proofs.Vocabulary.{expiry_at, falls, falls_due, false, filter, flat_map, happens, hears, is_news, is_timer_of, is_used_up, list_any, list_any-append, news, news_in, notes_in, notes_of, octet_at, octets, of_octets, option_map, option_map_or, port_of, refl, step_happens, subst, sym, tells_nothing, told_by, true, unwrap_or, with_expiry, without_first_octet, ℕ}
+use Rattle.laws_time.proofs.Vocabulary.{◌*◌, ◌++◌, ◌+◌, ◌<◌, ◌∙◌, ◌∷◌, ◌≡◌, ◌≤◌}
 use Rattle.model_line.specs.Event as line
 use Rattle.model_card.specs.Card as cards
 use Rattle.model_card.specs.Event as frames
@@ -21,8 +20,7 @@ use Rattle.laws_time.proofs.OfCircuit.Orders.{RunsOurs}
 use Rattle.laws_time.proofs.OfCircuit.Under.{EndBut, EndOk, all-past, all-then, here-is, past}
 
 pub fair-both : (ts us : List LineTold) → IsFair ts → IsFair us → IsFair (ts ++ us)
-fair-both ts us first then =
-    ap (list_any is_used_up) (codes-append ts us) ∙ list_any-append is_used_up (codes ts) (codes us) ∙ (λ i. first i || then i)
+fair-both ts us first h = grind (arith, list_any, is_used_up, codes-append, list_any-append, codes)
 
 -- The errors of an answer.
 codes-told : (a : port.Answer) → codes (told_by a) ≡ flat_map error_in (notes_in a)
@@ -37,18 +35,7 @@ codes-told (port.pulled value begun orders) = refl
 
 -- What is no expiry means none.
 none-means : (n201 : ℕ) (ev : port.Event) (p : Port) (timer : Timer) → IsNoExpiry ev → port.meant n201 ev p ≡ Some (line.expiry timer) → ⊥
-none-means n201 (port.octet value) p timer none is = go (gained n201 p.received value) is
-  where
-    go : (o : Option stream.Event) → option_map line.hears o ≡ Some (line.expiry timer) → ⊥
-    go None is = cc is
-    go (Some e) is = cc is
-none-means n201 (port.expiry other) p timer none is = none
-none-means n201 (port.request r) p timer none is = cc is
-none-means n201 port.pull p timer none is = go (is_due p) is
-  where
-    go : (b : Bool) → cond b (Some line.next) None ≡ Some (line.expiry timer) → ⊥
-    go true is = cc is
-    go false is = cc is
+none-means n201 h p timer none is = grind arith
 
 module _ (service : Service) (tei : ℕ) where
   abbrev pub Quiet : ℕ → List (Step Event) → TimedOctetCard → Type 0
@@ -69,15 +56,7 @@ module _ (service : Service) (tei : ℕ) where
 
   -- Nothing is told.
   pub walks-still : (a u : TimedEndpoint) → Leads (card_of a) (card_of u) → u.at.line ≡ a.at.line → u.at.told ≡ a.at.told → Walks a u
-  walks-still a u l line told = record {
-    steps = l.steps;
-    leads = l.leads;
-    prompt = l.prompt;
-    line = line;
-    more = [];
-    grows = told ∙ sym (append-nil a.at.told);
-    fair = λ quiet fair. subst IsFair (sym told) fair;
-  }
+  walks-still a u l line told = grind (arith, append-nil)
 
   news-both : (number : ℕ) (xs ys : List (Step Event)) (t : TimedOctetCard)
       → news of_octets service tei number (xs ++ ys) t ≡ news of_octets service tei number xs t ++ news of_octets service tei number ys (after_all octets xs t)
@@ -96,10 +75,7 @@ module _ (service : Service) (tei : ℕ) where
     line = k.line ∙ g.line;
     more = g.more ++ k.more;
     grows = k.grows ∙ ap (λ ts. ts ++ k.more) g.grows ∙ append_assoc a.at.told g.more k.more;
-    fair = λ quiet fair.
-        let parts = used-split (news of_octets service tei a.at.line g.steps (card_of a)) (news of_octets service tei a.at.line k.steps (after_all octets g.steps (card_of a)))
-        (ap Used (sym (news-both a.at.line g.steps k.steps (card_of a))) ∙ quiet) in
-        k.fair (subst (λ n. Quiet n k.steps (card_of u)) (sym g.line) (subst (Quiet a.at.line k.steps) g.leads parts.1)) (g.fair parts.0 fair);
+    fair = grind (arith, used-split, news, of_octets, card_of, after_all, octets, news-both);
   }
 
   abbrev Noted : port.Event → TimedEndpoint → Type 0
@@ -115,9 +91,7 @@ module _ (service : Service) (tei : ℕ) where
     line = refl;
     more = told_by (answered ev a.at);
     grows = refl;
-    fair = λ quiet fair.
-        fair-both a.at.told (told_by (answered ev a.at)) fair
-        (noted (used-split (news_in of_octets service tei a.at.line (Some (octet_at a.at.line ev)) a.at.card) [] quiet).0);
+    fair = grind (arith, fair-both, told_by, answered, used-split, news_in, of_octets, octet_at);
   }
 
   -- or what is due falls due.
@@ -130,13 +104,7 @@ module _ (service : Service) (tei : ℕ) where
     line = refl;
     more = told_by (answered (port.expiry x.timer) a.at);
     grows = refl;
-    fair = λ quiet fair.
-        let first : Used (news_in of_octets service tei a.at.line (option_map (expiry_at octets) (due a.clock)) a.at.card) ≡ false =
-        (used-split (news_in of_octets service tei a.at.line (option_map (expiry_at octets) (due a.clock)) a.at.card) [] quiet).0 in
-        let its : Used (news_in of_octets service tei a.at.line (Some (octet_at x.line (port.expiry x.timer))) a.at.card) ≡ false =
-        subst (λ o. Used (news_in of_octets service tei a.at.line (option_map (expiry_at octets) o) a.at.card) ≡ false) is first in
-        fair-both a.at.told (told_by (answered (port.expiry x.timer) a.at)) fair
-        (noted (subst (λ n. Used (news_in of_octets service tei a.at.line (Some (octet_at n (port.expiry x.timer))) a.at.card) ≡ false) own its));
+    fair = grind (arith, news_in, of_octets, option_map, expiry_at, octets, due, used-split, octet_at, fair-both, told_by, answered);
   }
 
   module _ (c : Config) (ranged : IsInRange c) (lengths : Lengths) (rate : ℕ) where

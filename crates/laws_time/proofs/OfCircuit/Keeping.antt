@@ -1,5 +1,5 @@
 -- What each request keeps, and each expiry, is kept as an end comes to its moment.
-use Rattle.laws_time.proofs.Vocabulary.{All, All-head, All-tail, Expiry, List, None, Option, Request, Some, TimedEndpoint, [], asks, comes_to, due, fall_due, falls, fold, length, option_map_or, refl, suc, zero, ℕ, ◌∷◌, ◌≡◌}
+use Rattle.laws_time.proofs.Vocabulary.{All, All-head, All-tail, Expiry, List, Option, Request, Some, TimedEndpoint, [], asks, comes_to, due, fall_due, falls, fold, length, option_map_or, refl, suc, zero, ℕ, ◌∷◌, ◌≡◌, arith}
 use Rattle.laws_time.proofs.OfCircuit.Ends.{at_time}
 
 -- What each thing keeps, a list of them keeps.
@@ -9,8 +9,7 @@ fold-keeps f Q P keeps (x ∷ xs) all b h = fold-keeps f Q P keeps xs (All-tail 
 
 -- What falls due now, if anything does.
 fell-keeps : (P : TimedEndpoint → Type 0) → ((x : Expiry) (a : TimedEndpoint) → due a.clock ≡ Some x → P a → P (falls a x)) → (a : TimedEndpoint) (o : Option Expiry) → due a.clock ≡ o → P a → P (option_map_or (falls a) o a)
-fell-keeps P keeps a None is h = h
-fell-keeps P keeps a (Some x) is h = keeps x a is h
+fell-keeps h keeps a h' is h'' = grind arith
 
 -- And all that falls due.
 pub falls-keep : (P : TimedEndpoint → Type 0) → ((x : Expiry) (a : TimedEndpoint) → due a.clock ≡ Some x → P a → P (falls a x)) → (n : ℕ) (a : TimedEndpoint) → P a → P (fall_due n a)

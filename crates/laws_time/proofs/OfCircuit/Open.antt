@@ -1,5 +1,5 @@
 -- What is under way from an end, and until when T200 runs there: after each event.
-use Rattle.laws_time.proofs.Vocabulary.{All, All-head, All-tail, AllByRecursion, Bool, Config, Control, ControlFrame, IsInRange, IsWaitingFrame, Item, Link, LinkEvent, LinkIsSound, List, OctetEndpoint, Ok, Parts, Service, StationStands, [], ap, arith, as_endpoint, as_heard, bits, event-follows, false, few-left, frame, inl, inr, is_final, item_text, left_of, length, length-append}
+use Rattle.laws_time.proofs.Vocabulary.{All, All-head, All-tail, AllByRecursion, Bool, Config, Control, ControlFrame, IsInRange, IsWaitingFrame, Item, Link, LinkEvent, LinkIsSound, List, OctetEndpoint, Parts, Service, StationStands, [], ap, arith, as_endpoint, as_heard, bits, event-follows, false, few-left, frame, inl, inr, is_final, item_text, left_of, length, length-append}
 use Rattle.laws_time.proofs.Vocabulary.{length-bits, length-check, length-map, link-sound, link_cleared as cleared, list_any, longest_text, map, map-append, offer, or-none, own_side, parts_of, port_of, put, reading, refl, room, spelling, subst, sym, take, terms, true, true≢false, ℕ, ◌*◌, ◌++◌, ◌+◌, ◌/◌, ◌∙◌, ◌∷◌, ◌≡◌, ◌≤◌}
 use Rattle.lapd_frame.proofs.Naming.{reading-again}
 use Rattle.model_bits.specs.Stuffing.{stuffed}
@@ -92,10 +92,7 @@ module _ (c : Config) (service : Service) (tei place : ℕ) (ranged : IsInRange 
       pub puts-by-now : length (port_of s).given + half ≤ most → Sends c.n201 (is_of kind c) most (port_of s) (ring h.its) → Sends c.n201 (is_of kind c) most (port_of u) (ring k.its)
       puts-by-now soon s_ok =
           let few = lengths in let room_left = fits in let short = text-short in
-          sends-with c.n201 (is_of kind c) most (port_of s) (port_of u) (ring h.its) (ring k.its) items given
-          (subst (WaitIn c.n201 (is_of kind c) most (text_length (port_of s).items)) (sym ring-is)
-          (wait-more c.n201 (is_of kind c) most (text_length (port_of s).items) (ring h.its) (map (text c service tei) puts) s_ok.wait
-          (λ o has is. omega (arith, few.0, few.1, room_left, short, soon)))) s_ok
+          grind (arith, sends-with, is_of, port_of, text_length, ring-is, wait-more, map, text)
 
     -- A pull.
     module _ (plain : (p : Parts) → (asks p.address.command p.control ≡ false) × (is_final p.address.command p.control ≡ false) → kind p.address.command p.control ≡ false)
@@ -116,11 +113,7 @@ module _ (c : Config) (service : Service) (tei place : ℕ) (ranged : IsInRange 
       takes new ws now all (inr (inl y)) =
           let w = All-head (IsWaitingFrame (terms c service tei)) y.0 now (subst (All (IsWaitingFrame (terms c service tei))) y.2 all) in
           inr (inl (text c service tei y.0, y.1, ap (map (text c service tei)) y.2, short-text (text c service tei y.0) w.octets))
-      takes new ws now all (inr (inr y)) =
-          inr (inr (ap (map (text c service tei)) y.0, λ o put. by-parts o (y.1 o put)))
-        where
-          by-parts : (o : List ℕ) → (p : Parts) × (o ≡ spelling (own_side c) p) × (reading (own_side c) o ≡ Ok p) × ((asks p.address.command p.control ≡ false) × (is_final p.address.command p.control ≡ false)) → is_of kind c o ≡ false
-          by-parts o z = grind arith
+      takes new ws now all (inr (inr y)) = grind (arith, map, text, spelling, own_side, reading, asks, is_final, is_of)
 
       pub pulled-on : Sends c.n201 (is_of kind c) most (port_of s) (ring h.its) → Sends c.n201 (is_of kind c) most (port_of u) (ring x.ends.its)
       pulled-on ok =

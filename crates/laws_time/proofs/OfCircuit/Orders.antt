@@ -1,7 +1,7 @@
 -- All that is ordered at an end is of its link's timers.
-use Rattle.laws_time.proofs.Vocabulary.{All-filter, All-put_in_order, AllByRecursion, Answer, Bool, Card, Clock, Config, Course, Expiry, IsSound, Link, LinkTimer, List, None, Ok, Option, Order, Parts, PoolFull, Refusal, Request, Sent, Service, Some, Speaks, Start, Stop, T200, T203, Timer, [], aim_of_expiry, aim_of_request, ap, asks-told, at, at_requested, at_timer, came, comes-told, cond}
+use Rattle.laws_time.proofs.Vocabulary.{All-filter, All-put_in_order, AllByRecursion, Answer, Bool, Card, Clock, Config, Course, Expiry, IsSound, Link, LinkTimer, List, None, Ok, Option, Order, Parts, PoolFull, Refusal, Request, Sent, Service, Some, Speaks, Start, Stop, T200, T203, Timer, [], aim_of_expiry, aim_of_request, ap, asks-told, at, at_requested, at_timer, came, comes-told, cond, arith}
 use Rattle.laws_time.proofs.Vocabulary.{expires-told, expiry_of, false, heard_side, is_before, is_of, is_order_of, is_timer_of, line_answer, line_at, link_number, link_runs as runs, next_of, not, obey, obeyed, of_request, option_map, order_for, orders_for, orders_in, own-is, place_in, reading, refl, refusal, sapi_of, subst, sym, takes-own, takes_slot, terms, told_of_link, true}
-use Rattle.laws_time.proofs.Vocabulary.{unless_refused_told, wants_room, with_given_frame, without, ℕ, ◌&&◌, ◌++◌, ◌∙◌, ◌∷◌, ◌≡◌}
+use Rattle.laws_time.proofs.Vocabulary.{unless_refused_told, wants_room, with_given_frame, without, ℕ, ◌++◌, ◌∙◌, ◌∷◌, ◌≡◌}
 use Rattle.model_bits.specs.Stream as stream
 use Rattle.model_link.specs.Events as link
 use Rattle.model_link.specs.Machine as links
@@ -34,21 +34,7 @@ module _ (service : Service) (tei : ℕ) where
     both (x ∷ xs) ys h g = (h.0, both xs ys h.1 g)
 
     one-timer : (timer : LinkTimer) (a b d : Option LinkTimer) → AreOurs (order_for (terms c service tei) timer a b d)
-    one-timer T200 a b d = go (runs T200 b && runs T200 d) (runs T200 a && not (runs T200 d))
-      where
-        its : Timer
-        its = Rattle.lapd_clock.specs.Timer.T200 service tei
-
-        go : (s e : Bool) → AreOurs (cond s (Start (Rattle.lapd_clock.specs.Timer.T200 service tei) ∷ []) (cond e (Stop (Rattle.lapd_clock.specs.Timer.T200 service tei) ∷ []) []))
-        go true e = (own-is service tei, tt)
-        go false true = (own-is service tei, tt)
-        go false false = tt
-    one-timer T203 a b d = go (runs T203 b && runs T203 d) (runs T203 a && not (runs T203 d))
-      where
-        go : (s e : Bool) → AreOurs (cond s (Start (Rattle.lapd_clock.specs.Timer.T203 service tei) ∷ []) (cond e (Stop (Rattle.lapd_clock.specs.Timer.T203 service tei) ∷ []) []))
-        go true e = (own-is service tei, tt)
-        go false true = (own-is service tei, tt)
-        go false false = tt
+    one-timer h a b d = grind (arith, runs, not, cond, own-is)
 
     its-orders : (a b d : Option LinkTimer) → AreOurs (orders_for (terms c service tei) a b d)
     its-orders a b d = both (order_for (terms c service tei) T200 a b d) (order_for (terms c service tei) T203 a b d) (one-timer T200 a b d) (one-timer T203 a b d)

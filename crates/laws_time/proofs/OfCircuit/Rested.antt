@@ -91,8 +91,7 @@ module _ (l : Line) (fit : Begins l) (b : Beat) (before : List Beat) (talk : All
   stands = record { now = now; long = both.0.long }
 
   is-up : IsUpAt l fit v
-  is-up =
-      on.by-up l.service l.tei fit.call.terminal l.near l.far (face l fit false) (face l fit true) (terms_in_range l.near fit.call.near.0 l.service l.tei fit.call.terminal) (terms_in_range l.far fit.call.far.0 l.service l.tei fit.call.terminal) (as_wire [] [] v) up-as
+  is-up = grind (arith, on.by-up, face, terms_in_range, as_wire, up-as)
 
   answered : (xs : List Beat) → All (AsksData l) xs → l.lengths.t200 ≤ (after l.rate xs r).beats / l.rate → IsUpAt l fit (done l fit xs v)
   answered xs all late = up-stays l fit (all_steps xs) (data-steps l fit xs all) v now is-up

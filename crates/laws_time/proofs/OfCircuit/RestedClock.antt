@@ -86,10 +86,7 @@ Late limit rate timers.T201 m = Unit {0}
 Late limit rate timers.T202 m = Unit {0}
 
 as-late : (limit rate : ℕ) (timer : Timer) (m : ℕ) → limit ≤ m * rate → Late limit rate timer m
-as-late limit rate (timers.T200 of by) m late = tt
-as-late limit rate (timers.T203 of by) m late = late
-as-late limit rate timers.T201 m late = tt
-as-late limit rate timers.T202 m late = tt
+as-late limit rate h m late = grind arith
 
 pub all-late : (limit rate : ℕ) (xs : List Expiry) → All (λ (x : Expiry). limit ≤ x.moment * rate) xs → AllByRecursion (λ x. Late limit rate x.timer x.moment) xs
 all-late limit rate [] all = tt

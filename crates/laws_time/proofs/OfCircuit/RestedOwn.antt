@@ -1,6 +1,7 @@
 -- Beats without noise, in which anything of the link is asked for and timers fall due: at either end the link alone speaks, and its timers
 -- alone run.
-use Rattle.laws_time.proofs.Vocabulary.{All, All-head, All-tail, AllByRecursion, Beat, Begins, Clocked, Config, Expiry, Face, IsClean, IsInRange, IsOfLink, IsTalk, Line, List, None, OctetEndpoint as Endpoint, Option, Port, Request, Service, Some, TimedEndpoint, Timer, [], after, answered, ap, append_assoc, asks, beat, begins, comes_to, due, faces, faces-back, falls, framed, frames_among, gained}
+use Rattle.laws_time.proofs.Vocabulary.{All, All-head, All-tail, AllByRecursion, Beat, Begins, Clocked, Config, Expiry, Face, IsClean, IsInRange, IsOfLink, IsTalk, Line, List, None, OctetEndpoint as Endpoint, Option, Port, Request}
+use Rattle.laws_time.proofs.Vocabulary.{Service, Some, TimedEndpoint, Timer, [], after, answered, ap, append_assoc, asks, beat, begins, comes_to, due, faces, faces-back, falls, framed, frames_among, gained, arith}
 use Rattle.laws_time.proofs.Vocabulary.{gone, happens, heard_in, heard_with, hears, is_timer_of, octet_orders, option_to_list, own_side, port-after, port_of, refl, spelling, sym, true, unwrap_or, within-ports, without_first, without_first_octet, ℕ, ◌++◌, ◌/◌, ◌∙◌, ◌∷◌, ◌≡◌}
 use Rattle.model_bits.specs.Stream as stream
 use Rattle.model_card.specs.ports.Port as port
@@ -101,17 +102,7 @@ module _ (service : Service) (tei : ℕ) (c d : Config) (ranged : IsInRange c) (
   items-stay noise (value ∷ more) a h = ap (λ (p : Port). p.items) (port-after a.at (port.octet (unwrap_or noise value)) (within-ports c ranged a.at h.ends.ran))
 
   pub own-shorter : (a : TimedEndpoint) → Own a → Own (without_first_octet a)
-  own-shorter a h = record {
-    ends = record {
-      ran = record { within = h.ends.ran.within; events = h.ends.ran.events; at_lines = h.ends.ran.at_lines; is = h.ends.ran.is; exact = h.ends.ran.exact };
-      its = h.ends.its;
-      stands = h.ends.stands;
-      frames = h.ends.frames;
-      octets = h.ends.octets;
-    };
-    here = h.here;
-    ours = h.ours;
-  }
+  own-shorter a h = grind arith
 
 module _ (l : Line) (fit : Begins l) where
   abbrev near : IsInRange l.near

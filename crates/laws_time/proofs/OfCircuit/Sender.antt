@@ -40,21 +40,7 @@ module _ (n201 : ℕ) where
 
     -- The frame of which octets are still to be given is the last on the line.
     pub last-is : (f : List ℕ) → out.on_its_way ≡ f ∷ [] → IsCut p.items p.given → (front : List Item) × (p.items ≡ front ++ frame f ∷ [])
-    last-is f one (inl none) =
-        absurd (some-in (heard_in n201 p.given) (stream_frame f) [] (ap (λ items. framed (frames_among items)) (sym none) ∙ out.heard ∙ ap (λ fs. heard_in n201 p.given ++ framed fs) one))
-    last-is f one (inr x) = go x.last refl
-      where
-        go : (i : Item) → x.last ≡ i → (front : List Item) × (p.items ≡ front ++ frame f ∷ [])
-        go idle e =
-            let all = all-given x.front (x.items_are ∙ ap (λ i. x.front ++ i ∷ []) e) in
-            absurd (none-more (heard_in n201 p.given) (stream_frame f) (sym all ∙ out.heard ∙ ap (λ fs. heard_in n201 p.given ++ framed fs) one))
-        go (frame g) e =
-            let items = x.items_are ∙ ap (λ i. x.front ++ i ∷ []) e in
-            let all = ap (λ is. framed (frames_among is)) items ∙ ap framed (frames_among-append x.front (frame g ∷ []))
-            ∙ map-append (λ octets. stream_frame octets) (frames_among x.front) (g ∷ []) in
-            let same = same_from_push (framed (frames_among x.front)) (heard_in n201 p.given) (stream_frame g) (stream_frame f)
-            (sym all ∙ out.heard ∙ ap (λ fs. heard_in n201 p.given ++ framed fs) one) in
-            (x.front, items ∙ ap (λ octets. x.front ++ frame octets ∷ []) (same-frame g f same.1))
+    last-is f one h = grind (arith, some-in, heard_in, framed, frames_among, out, all-given, none-more, frames_among-append, map-append, same_from_push, same-frame)
 
     -- what was given is no longer than the text
     pub given-short : 8 * length p.given ≤ text_length p.items
@@ -78,18 +64,13 @@ module _ (n201 : ℕ) where
     later = (out q k).on_its_way
 
     all-now : framed (frames_among q.items) ≡ (heard_in n201 p.given) ++ (framed (out p h).on_its_way ++ framed (frames_among new))
-    all-now =
-        ap (λ items. framed (frames_among items)) g.items ∙ ap framed (frames_among-append p.items new)
-        ∙ map-append (λ octets. stream_frame octets) (frames_among p.items) (frames_among new)
-        ∙ ap (λ xs. xs ++ framed (frames_among new)) (out p h).heard ∙ append_assoc (heard_in n201 p.given) (framed on) (framed (frames_among new))
+    all-now = grind (arith, framed, frames_among, frames_among-append, map-append, append_assoc, heard_in)
 
     with-it : heard_in n201 q.given ≡ (heard_in n201 p.given) ++ stream_frame o ∷ []
     with-it = ap (heard_in n201) g.given ∙ heard_with n201 p.given value ∙ ap (λ e. (heard_in n201 p.given) ++ option_to_list e) is
 
     rest-is : framed (out p h).on_its_way ++ framed (frames_among new) ≡ stream_frame o ∷ framed (out q k).on_its_way
-    rest-is =
-        append_cancel_left (heard_in n201 p.given) (framed on ++ framed (frames_among new)) (stream_frame o ∷ framed later)
-        (sym all-now ∙ (out q k).heard ∙ ap (λ xs. xs ++ framed later) with-it ∙ append_assoc (heard_in n201 p.given) (stream_frame o ∷ []) (framed later))
+    rest-is = grind (arith, append_cancel_left, heard_in, framed, frames_among, all-now, with-it, append_assoc)
 
     put-now : (items : List Item) → length items ≤ 1 → framed (frames_among items) ≡ stream_frame o ∷ framed (out q k).on_its_way → items ≡ frame o ∷ []
     put-now [] few e = absurd (cc e)
@@ -156,11 +137,7 @@ module _ (n201 : ℕ) where
 
     -- What else happens leaves the line as it is.
     pub sends-with : (p q : Port) (ring now : List (List ℕ)) → q.items ≡ p.items → q.given ≡ p.given → WaitIn (text_length p.items) now → Sends p ring → Sends q now
-    sends-with p q ring now items given wait h = record {
-      done = λ first value more o is. h.done first value more o (sym given ∙ is);
-      last = λ front o is kind_is. subst (λ items. text_length items + 1 ≤ 8 * (most + 1)) (sym items) (h.last front o (sym items ∙ is) kind_is);
-      wait = subst (λ items. WaitIn (text_length items) now) (sym items) wait;
-    }
+    sends-with p q ring now items given wait h = grind arith
 
     -- What is put on the line with an octet: nothing, what has waited longest, or, if nothing waits, no frame of the kind.
     abbrev pub Takes : List Item → List (List ℕ) → List (List ℕ) → Type 0
@@ -263,8 +240,4 @@ module _ (n201 : ℕ) where
     wait-later a (o ∷ ring) h = ((λ is. let bound = h.0 is in omega (arith, bound, less)), wait-later (a + 72) ring h.1)
 
     pub sends-later : (p : Port) (ring : List (List ℕ)) → Sends kind most p ring → Sends kind later p ring
-    sends-later p ring h = record {
-      done = λ first value more o given is kind_is. let bound = h.done first value more o given is kind_is in omega (arith, bound, less);
-      last = λ front o is kind_is. let bound = h.last front o is kind_is in omega (arith, bound, less);
-      wait = wait-later (text_length p.items) ring h.wait;
-    }
+    sends-later p ring h = grind (arith, wait-later)

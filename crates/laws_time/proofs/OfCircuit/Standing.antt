@@ -1,8 +1,8 @@
 -- An end of the circuit, on whose line one link alone speaks, after each event.
-use Rattle.laws_time.proofs.Vocabulary.{All, All-append, All-cons, All-head, All-nil, All-tail, Answer, AreOctets, Bool, Card, Config, Fits, FrameEndpoint, Granted, IsCarried, IsInRange, IsSoundCard, Item, Link, LinkEndpoint, LinkTimer, List, NextFrame, None, OctetEndpoint, Option, Parts, Port, Ran, Request, Service, Some, Speaks, StationStands, StreamEvent, Timer, [], aim_of_expiry}
+use Rattle.laws_time.proofs.Vocabulary.{All, All-append, All-cons, All-head, All-nil, All-tail, Answer, AreOctets, Bool, Config, Fits, FrameEndpoint, Granted, IsCarried, IsInRange, Item, Link, LinkEndpoint, LinkTimer, List, NextFrame, None, OctetEndpoint, Option, Parts, Port, Ran, Request, Service, Some, StationStands, StreamEvent, Timer, [], aim_of_expiry}
 use Rattle.laws_time.proofs.Vocabulary.{aim_of_request, answer, ap, append-nil, arith, as_endpoint, asked-as, asks-stands, at_requested, at_timer, came, cond, contents_given, expires-stands, false, frame_given, frames_among, frames_among-append, frames_by, fresh_line, gained, given_in, gives-frames, gives-octets, gives-stands, goes-on, heard-as, heard_side, if_meant, inl, inr}
-use Rattle.laws_time.proofs.Vocabulary.{is_due, item_of, line_after, line_answer, line_at, map, meant, next_of_card, on-line, option_map, option_map_or, own_side, place_in, port-after, port_of, ports_after as after, pull-between, pull-given, pull-put, pulled-as, reading, refl, said_by, set-get_or, sound-port, spelling, subst, sym, takes-stands, takes_slot, terms, true, with_link, with_sent}
-use Rattle.laws_time.proofs.Vocabulary.{within-ports, ℕ, ◌++◌, ◌<◌, ◌∙◌, ◌∷◌, ◌≡◌, ◌⊎◌}
+use Rattle.laws_time.proofs.Vocabulary.{is_due, item_of, line_after, line_answer, map, meant, next_of_card, on-line, option_map, option_map_or, own_side, place_in, port-after, port_of, ports_after as after, pull-between, pull-given, pull-put, pulled-as, reading, refl, said_by, set-get_or, sound-port, spelling, subst, sym, takes-stands, takes_slot, terms, true, with_link, with_sent}
+use Rattle.laws_time.proofs.Vocabulary.{within-ports, ℕ, ◌++◌, ◌∙◌, ◌∷◌, ◌≡◌, ◌⊎◌}
 use Rattle.model_bits.specs.Stream as stream
 use Rattle.model_link.specs.Events as link
 use Rattle.model_link.specs.Machine as links
@@ -43,37 +43,16 @@ module _ (c : Config) (service : Service) (tei place : ℕ) (ranged : IsInRange 
   pub fine : (s : OctetEndpoint) → Ends s → Fine c.n201 (port_of s)
   fine s h = record { sound = sound-port c ranged s h.ran; on = on-line c ranged s h.ran; octets = h.octets }
 
-  -- without the frames on its way
-  as-bare : (x : FrameEndpoint) (n : LinkEndpoint) → StationStands c service tei place x n → StationStands c service tei place (record x { way = [] }) (bare n.link)
-  as-bare x n h = record {
-    config = h.config;
-    sound = h.sound;
-    within = h.within;
-    speaks = h.speaks;
-    terms = refl;
-    way = refl;
-    carried = All-nil (IsCarried c service tei);
-  }
-
   own-config : (x : FrameEndpoint) (n : LinkEndpoint) → StationStands c service tei place x n → StationStands x.card.config service tei place x n
   own-config x n h = subst (λ k. StationStands k service tei place x n) (sym h.config) h
 
   finish : (k : Config) → k ≡ c → (u : OctetEndpoint) (y : FrameEndpoint) (n : LinkEndpoint) → record (as_endpoint [] u) { way = [] } ≡ record y { way = [] } → StationStands k service tei place y n
       → StationStands c service tei place (as_endpoint [] u) (bare n.link)
-  finish k same u y n is h =
-      subst (λ z. StationStands c service tei place z (bare n.link)) (sym is) (as-bare y n (subst (λ k. StationStands k service tei place y n) same h))
+  finish k same u y n is h = grind arith
 
   -- what was granted and told does not matter
   told-more : (x y : FrameEndpoint) → y.card ≡ x.card → y.line ≡ x.line → y.way ≡ x.way → (n : LinkEndpoint) → StationStands c service tei place x n → StationStands c service tei place y n
-  told-more x y card number way n h = record {
-    config = ap (λ (m : Card). m.config) card ∙ h.config;
-    sound = subst IsSoundCard (sym card) h.sound;
-    within = subst (λ k. k < c.lines) (sym number) h.within;
-    speaks = subst (λ k. Speaks c service tei place n.link (line_at k y.card)) (sym number) (subst (λ m. Speaks c service tei place n.link (line_at x.line m)) (sym card) h.speaks);
-    terms = h.terms;
-    way = way ∙ h.way;
-    carried = h.carried;
-  }
+  told-more x y card number way n h = grind arith
 
   abbrev bared : FrameEndpoint → FrameEndpoint
   bared x = record x { way = [] }
@@ -232,8 +211,7 @@ module _ (c : Config) (service : Service) (tei place : ℕ) (ranged : IsInRange 
         heard-frame is =
             let e = link.received (link.frame f) in
             let k = s.card.card.config in
-            let whole : came k.n201 octets ≡ stream.frame octets =
-            ap (λ (k : Config). came k.n201 octets) h.stands.config ∙ ap (λ n. came n octets) (sym size) ∙ ap (came d.n201) spelled ∙ from.carried.whole ∙ ap stream.frame (sym spelled) in
+            let whole : came k.n201 octets ≡ stream.frame octets = grind (arith, came) in
             let read = ap (λ (k : Config). reading (heard_side k) octets) h.stands.config
             ∙ ap (λ side. reading side octets) side ∙ ap (reading (own_side d)) spelled ∙ from.carried.read in
             let takes = takes-stands service tei place (as_endpoint [] s) (bare h.its) own f octets whole read from.sapi from.by in
@@ -291,8 +269,7 @@ module _ (c : Config) (service : Service) (tei place : ℕ) (ranged : IsInRange 
     all-own (f ∷ fs) all = All-cons IsOwn (spelling (own_side c) f) (map (spelling (own_side c)) fs) (f, refl, All-head (IsCarried c service tei) f fs all) (all-own fs (All-tail (IsCarried c service tei) f fs all))
 
     octets-now : (o : Option NextFrame) → ((f : NextFrame) → o ≡ Some f → AreOctets f.octets) → All AreOctets (frames_among (item_of o ∷ []))
-    octets-now None all = All-nil AreOctets
-    octets-now (Some f) all = All-cons AreOctets f.octets [] (all f refl) (All-nil AreOctets)
+    octets-now h all = grind arith
 
     due-now : is_due (port_of s) ≡ true → Pulled
     due-now due =
@@ -300,8 +277,7 @@ module _ (c : Config) (service : Service) (tei place : ℕ) (ranged : IsInRange 
         let put = pull-put c.n201 c fits s h.ran due in
         let i = item_of (given_in (next_of_card s.line s.card.card)) in
         let gives = gives-stands service tei place (as_endpoint [] s) (bare h.its) own in
-        let carried : All (IsCarried c service tei) (frame_given (terms c service tei) (links.given (terms c service tei) h.its)) =
-        subst (λ k. All (IsCarried k service tei) (frame_given (terms c service tei) (links.given (terms c service tei) h.its))) h.stands.config gives.carried in
+        let carried : All (IsCarried c service tei) (frame_given (terms c service tei) (links.given (terms c service tei) h.its)) = grind (arith, frame_given, terms, links.given) in
         let more = ap frames_among put ∙ frames_among-append (port_of s).items (i ∷ []) in
         record {
           ends = record {

@@ -191,13 +191,7 @@ module _ (c : Config) (service : Service) (tei place : ℕ) (ranged : IsInRange 
         spread now r = grind arith
 
         timer-anew : anew ≡ true → IsLong (length (port_of a.at).given) mv.ends.its a.at.line (happens ev a).clock
-        timer-anew e m waits at_m =
-            let starts = starts-anew c past a.at.line ranged all-past h.ends.ran.within service tei what a.clock (ap is_waiting (q-is mv.ends) ∙ waits) e in
-            let now_is : m ≡ a.clock.now + a.clock.lengths.t200 =
-            same_Some m (a.clock.now + a.clock.lengths.t200) (sym at_m ∙ ap (λ (k : Clock). moment_of a.at.line t200 k.running) (clock-is) ∙ starts) in
-            let long_is : m ≡ a.clock.now + lengths.t200 = now_is ∙ ap (λ (ls : Lengths). a.clock.now + ls.t200) h.lengths_are in
-            subst (λ n. length (port_of a.at).given + lengths.t200 * rate ≤ (n + 1) * rate) (sym long_is)
-            (let wide = spread a.clock.now rate in omega (arith, wide, soon))
+        timer-anew e m waits at_m = grind (arith, starts-anew, all-past, is_waiting, q-is, same_Some, moment_of, clock-is, length, port_of, spread)
 
         -- or runs on
         no-move : anew ≡ false → (view_of c service tei a.at.line (meant_all (fresh c) h.ends.ran.events)).link.state ≡ (view_behind c service tei a.at.line (meant_all (fresh c) h.ends.ran.events) what).link.state
@@ -207,11 +201,7 @@ module _ (c : Config) (service : Service) (tei place : ℕ) (ranged : IsInRange 
             same-states o q none = grind (arith, eqb-true)
 
         timer-on : anew ≡ false → IsLong S mv.ends.its a.at.line (happens ev a).clock
-        timer-on e m waits at_m =
-            let state_same = no-move e in
-            let was : is_waiting (view_of c service tei a.at.line past).link.state ≡ true = ap is_waiting (state_same ∙ q-is mv.ends) ∙ waits in
-            let stays = runs-on c past a.at.line ranged all-past h.ends.ran.within service tei what a.clock was (sym state_same) e in
-            old e m (ap is_waiting (sym (o-is)) ∙ was) (sym stays ∙ ap (λ (k : Clock). moment_of a.at.line t200 k.running) (sym (clock-is)) ∙ at_m)
+        timer-on e m waits at_m = grind (arith, no-move, is_waiting, view_of, q-is, runs-on, all-past, o-is, moment_of, clock-is)
 
         no-polls : anew ≡ false → AllByRecursion (λ f. asks f.command f.control ≡ false) (putting mv.event)
         no-polls none = grind (arith, eq-eqb, o-is, no-move, q-is, heard-time, first-of, put-asks-not)

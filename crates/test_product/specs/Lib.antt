@@ -8,3 +8,4 @@ pub mod WorkedClock
 pub mod WorkedTeis
 pub mod WorkedTeisByAnnexB
 pub mod WorkedCounters
+pub mod WorkedImages

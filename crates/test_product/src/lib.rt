@@ -6,7 +6,8 @@
 //! - `starts`: starts at the ends of their ranges. `words`: what faults say. `checks`: how a check of a TEI ends.
 //! - `kept`: `keep_replies`, which shows by its contract what a caller of `drive` can conclude.
 //!
-//! `specs/` and `proofs/` have worked values of the definitions of the lower crates, of `model_bits` and of `lapd_count`.
+//! `specs/` and `proofs/` have worked values of the definitions of the lower crates, of `model_bits`, of `lapd_count` and of
+//! images.
 #![tactic(auto)]
 
 #[cfg(test)]

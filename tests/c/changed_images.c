@@ -5,6 +5,8 @@
  * gives a card or a clock whose image is just this one. Then anything may happen to it: it keeps its promises. For tests alone.
  *
  *     changed_images SEED COUNT
+ *
+ * So many images of cards are changed, and an eighth as many of clocks.
  */
 #include <stdbool.h>
 #include <stdio.h>
@@ -20,14 +22,20 @@ typedef struct {
     uint8_t octets[MOST_IMAGE];
 } image;
 
+/* How many images were restored, and how many were not. */
+typedef struct {
+    unsigned long taken, refused;
+} tally;
+
 static image images[KEPT], clocks[KEPT], changed;
 static uint64_t seed;
-static unsigned accepted, refused, accepted_clocks;
+static tally of_cards, of_clocks;
 
 static void wants(bool is, const char *what) {
     if (is)
         return;
-    fprintf(stderr, "changed_images: after %u that were taken and %u that were not: %s\n", accepted, refused, what);
+    fprintf(stderr, "changed_images: after %lu of cards and %lu of clocks that were taken, and %lu and %lu that were not: %s\n", of_cards.taken,
+            of_clocks.taken, of_cards.refused, of_clocks.refused, what);
     exit(1);
 }
 
@@ -222,9 +230,9 @@ static void change(const image *of) {
 }
 
 /* Whether an image was taken; and that what came of it says the same. */
-static bool is_taken(uint32_t status, bool is_there) {
+static bool is_taken(uint32_t status, bool is_there, tally *of) {
     wants(status == LAPD_OK ? is_there : status == LAPD_BAD_IMAGE && !is_there, "a restore");
-    *(status == LAPD_OK ? &accepted : &refused) += 1;
+    *(status == LAPD_OK ? &of->taken : &of->refused) += 1;
     return status == LAPD_OK;
 }
 
@@ -241,7 +249,7 @@ static void is_as_it_was(uint32_t status) {
 static void restores(void) {
     lapd_card card = LAPD_CARD_NONE;
     uint32_t lines = 0, status = lapd_card_restore(&card, changed.octets, changed.length);
-    if (!is_taken(status, card.started))
+    if (!is_taken(status, card.started, &of_cards))
         return;
     is_as_it_was(lapd_card_save(&card, again.octets, sizeof again.octets, &again.length));
     wants(lapd_lines(&card, &lines) == LAPD_OK && 0 < lines && lines <= LAPD_MOST_LINES, "lines");
@@ -253,9 +261,8 @@ static void restores(void) {
 static void restores_clock(void) {
     lapd_clock clock = LAPD_CLOCK_NONE;
     uint32_t status = lapd_clock_restore(&clock, changed.octets, changed.length);
-    if (!is_taken(status, clock.started))
+    if (!is_taken(status, clock.started, &of_clocks))
         return;
-    accepted_clocks++;
     is_as_it_was(lapd_clock_save(&clock, again.octets, sizeof again.octets, &again.length));
     for (unsigned turn = 0; turn < AFTER; turn++)
         ticks(&clock, 1);
@@ -272,17 +279,18 @@ int main(int words, char **word) {
         makes_clock(&clocks[i]);
         memcpy(&changed, &clocks[i], sizeof changed);
         restores_clock();
-        wants(accepted == 2 * (i + 1), "an image is refused that was not changed");
+        wants(of_cards.taken == i + 1 && of_clocks.taken == i + 1, "an image is refused that was not changed");
     }
     for (unsigned long turn = 0; turn < count; turn++) {
-        bool is_clock = below(8) == 0;
-        change(is_clock ? clocks : images);
-        if (is_clock)
+        change(images);
+        restores();
+        if (turn % 8 == 0) {
+            change(clocks);
             restores_clock();
-        else
-            restores();
+        }
     }
-    printf("%u images were taken, %u of these of clocks, and %u refused\n", accepted, accepted_clocks, refused);
-    wants(count < 1000 || (refused > count / 4 && accepted > count / 50 && accepted_clocks > count / 500), "too many are taken, or refused");
+    printf("%lu images of cards were taken, and %lu refused; of clocks %lu and %lu\n", of_cards.taken, of_cards.refused, of_clocks.taken, of_clocks.refused);
+    wants(count < 1000 || (of_cards.refused > count / 4 && of_cards.taken > count / 50 && of_clocks.refused > count / 32 && of_clocks.taken > count / 64),
+          "too many are taken, or refused");
     return 0;
 }

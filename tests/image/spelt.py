@@ -1,6 +1,7 @@
-"""Spells a card that was read from an image as its octets again: a reader that has left nothing out spells the same ones."""
+"""Spells a card or a clock that was read from an image as its octets again: a reader that has left nothing out spells the same ones."""
 from typing import Callable, List, Optional, Tuple, TypeVar
 
+from vithrynel.clock_image import KIND, ClockImage, Running
 from vithrynel.image import FREE, MAGIC, VERSION, Card, Clock, Config, Line, Link, Message
 
 T = TypeVar("T")
@@ -67,3 +68,13 @@ def octets_of(card: Card) -> bytes:
     counters = b"".join(spelt(8, n) for line in card.lines for n in line.counters)
     waits = b"".join(bits_spelt(line.waits, 2) for line in card.lines)
     return head + config_spelt(card.config) + lines + counters + waits + clock_spelt(card.clock)
+
+
+def timer_spelt(it: Running) -> bytes:
+    return bytes([it.timer, it.tei, it.packet]) + spelt(8, it.due)
+
+
+def octets_of_clock(clock: ClockImage) -> bytes:
+    """The image of a caller's clock."""
+    head = MAGIC + bytes([VERSION, KIND, len(clock.lines), clock.terminals])
+    return head + b"".join(spelt(4, n) for n in clock.lengths) + b"".join(list_spelt(timer_spelt, it) for it in clock.lines)

@@ -23,7 +23,7 @@ T = TypeVar("T")
 
 
 class BadImage(Fault):
-    """No image of a card: at which octet this shows, and why."""
+    """No image: at which octet this shows, and why."""
 
     def __init__(self, at: int, why: str):
         super().__init__(f"octet {at}: {why}")
@@ -152,8 +152,7 @@ class Reader:
 def read(octets: bytes) -> Card:
     """The card whose image this is."""
     r = Reader(octets)
-    r.need(r.octets(4) == MAGIC, "it does not begin with LAPD")
-    r.number(1, VERSION, VERSION, "the version")
+    read_version(r)
     of_octets, timed = r.bits(2)
     config = config_of(r)
     card = Card(of_octets, config, [line_of(r, config) for _ in range(config.lines)])
@@ -167,6 +166,12 @@ def read(octets: bytes) -> Card:
     card.clock = clock_of(r, card) if timed else None
     r.need(r.at == len(octets), "something follows the image")
     return card
+
+
+def read_version(r: Reader) -> None:
+    """What each image begins with."""
+    r.need(r.octets(4) == MAGIC, "it does not begin with LAPD")
+    r.number(1, VERSION, VERSION, "the version")
 
 
 def config_of(r: Reader) -> Config:
@@ -269,8 +274,12 @@ def control_of(r: Reader) -> Tuple[bool, bytes]:
     return command, bytes([first])
 
 
+def lengths_of(r: Reader) -> List[int]:
+    return [r.number(4, 1, LONGEST, "a timer's length") for _ in range(4)]
+
+
 def clock_of(r: Reader, card: Card) -> Clock:
-    lengths, now = [r.number(4, 1, LONGEST, "a timer's length") for _ in range(4)], r.number(8, 0, (1 << 63) - 1, "the moment")
+    lengths, now = lengths_of(r), r.number(8, 0, (1 << 63) - 1, "the moment")
     moments = [[r.number(8, 0, now + LONGEST, "when a timer is due") for _ in line.timers()] for line in card.lines]
     changed = [[r.number(8, 0, now, "when a state changed") for _ in range(2 * card.config.terminals)] for _ in card.lines]
     return Clock(lengths, now, moments, changed)

@@ -1,16 +1,21 @@
-"""What is in the image of a card, in words: a line a fact, in the order of its octets."""
+"""What is in the image of a card or of a clock, in words: a line a fact, in the order of its octets."""
 from typing import Iterator, List, Optional
 
+from .clock_image import OF_LINKS, TIMERS, ClockImage, is_of_clock, read_clock
 from .frames import digits
-from .image import COUNTED, COUNTERS, FLAGS, MESSAGES, VERSION, Card, Config, Line, Link, Message
+from .image import COUNTED, COUNTERS, FLAGS, MESSAGES, VERSION, Card, Config, Line, Link, Message, read
 
 STATES = {4: "tei-assigned", 5: "awaiting-establishment", 6: "awaiting-release", 7: "established", 8: "timer-recovery"}
 COUNTED_OF_LINK = "sent-again t200-expired rejects-sent rejects-received established".split()
 
 
+def of_service(word: str, packet: bool, tei: Optional[int]) -> str:
+    return f"{word}{'-16' * packet} {tei}"
+
+
 def of_link(word: str, number: int, places: List[Optional[int]]) -> str:
     """A word about the link of this number, whose TEI is on the line."""
-    return f"{word}{'-16' * (number % 2)} {places[number // 2]}"
+    return of_service(word, number % 2 == 1, places[number // 2])
 
 
 def head(card: Card) -> Iterator[str]:
@@ -62,7 +67,7 @@ def link(number: int, it: Link, places: List[Optional[int]]) -> Iterator[str]:
 def line(config: Config, it: Line) -> Iterator[str]:
     yield from teis(config, it)
     for tei, packet, octets in it.units:
-        yield f"unit{'-16' * packet} {tei} {digits(octets)}"
+        yield f"{of_service('unit', packet, tei)} {digits(octets)}"
     yield f"turn {it.turn}"
     for number, one in it.links.items():
         yield from link(number, one, it.places)
@@ -75,10 +80,14 @@ def counters(it: Line) -> Iterator[str]:
         yield from shown or ["nothing"]
 
 
+def lengths(milliseconds: List[int]) -> str:
+    return " ".join(["timers", *map(str, milliseconds)])
+
+
 def clock(card: Card) -> Iterator[str]:
     if card.clock is None:
         return
-    yield " ".join(["timers", *map(str, card.clock.lengths)])
+    yield lengths(card.clock.lengths)
     yield f"now {card.clock.now}"
     for at, (it, moments) in enumerate(zip(card.lines, card.clock.moments)):
         for (number, name), moment in zip(it.timers(), moments):
@@ -99,3 +108,18 @@ def words(card: Card) -> Iterator[str]:
     for at, it in enumerate(card.lines):
         yield from (f"{at} {of_link('waits-for-room', number, it.places)}" for number, waits in enumerate(it.waits) if waits)
     yield from clock(card)
+
+
+def words_of_clock(it: ClockImage) -> Iterator[str]:
+    yield f"image version {VERSION} of a clock"
+    yield f"lines {len(it.lines)} terminals {it.terminals}"
+    yield lengths(it.lengths)
+    for at, timers in enumerate(it.lines):
+        for one in timers:
+            name = TIMERS[one.timer]
+            yield f"{at} {of_service(name, one.packet, one.tei) if one.timer < OF_LINKS else name} due {one.due}"
+
+
+def words_of(octets: bytes) -> Iterator[str]:
+    """What is in the image that these octets are; or a `BadImage`."""
+    return words_of_clock(read_clock(octets)) if is_of_clock(octets) else words(read(octets))

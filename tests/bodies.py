@@ -107,6 +107,8 @@ def function_at(crate, path, lines, at):
         parts = [crate, *[it for it in path[4:-3].split("/") if it not in ("lib", "main")]]
         if indent:
             above = next((lines[it] for it in range(start, -1, -1) if re.match(r"(impl|trait|pub trait)\b", lines[it])), "")
+            # (rattle's name of a From has what it is from)
+            above = re.sub(r"\bFrom<(?:\w+::)*(\w+)>", r"From\1", above)
             above = re.sub(r"<[^<>]*>", "", re.sub(r"<[^<>]*>", "", above))
             is_for = re.match(r"impl ([\w:]+) for ([\w:]+)", above)
             words = re.match(r"(?:impl|trait|pub trait) ([\w:]+)", above)

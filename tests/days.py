@@ -1,9 +1,14 @@
 """When each wrong body and each wrong machine was refused last, and over what: a line each, its name, the day, and a sum of what
-it was tried over ('-' is a day for which no sum was written down)."""
+it was tried over ('-' is a day for which no sum was written down). Before the sum stands 'by-hand:' if no clause refused it, and
+an answer under proofs/ did not fit."""
 import datetime
 import fcntl
 
-KINDS = "over the code and definitions as they are", "over earlier ones", "over some that were not written down", "never"
+AS_THEY_ARE, BY_HAND, EARLIER, UNKNOWN, NEVER = KINDS = (
+    "over the code and definitions as they are", "over these, as an answer under proofs/ did not fit", "over earlier ones",
+    "over some that were not written down", "never")
+# Before the sum of one that no clause refused, but an answer under proofs/.
+HAND_WRITTEN = "by-hand:"
 
 
 def read(path):
@@ -30,12 +35,20 @@ def record(path, sums, names):
         it.truncate()
 
 
+def kind_of(told, name, sum_of):
+    """Returns over what this name was refused last, if its sum is now this one."""
+    day, over = told.get(name, ("", ""))
+    if day and over == "-":
+        return UNKNOWN
+    now = {sum_of: AS_THEY_ARE, f"{HAND_WRITTEN}{sum_of}": BY_HAND}
+    return now.get(over, EARLIER) if day else NEVER
+
+
 def print_last(path, sums):
     """Prints when each of these names was refused last, and how many over what there is now."""
     told, count = days_in(read(path)), dict.fromkeys(KINDS, 0)
     for name in sums:
-        day, over = told.get(name, ("", ""))
-        words = KINDS[3 if not day else 2 if over == "-" else 0 if over == sums[name] else 1]
-        count[words] += 1
-        print(f"{name}: {day} {words}".replace("  ", " "))
-    print("; ".join(f"{number} {words}" for words, number in count.items()))
+        kind = kind_of(told, name, sums[name])
+        count[kind] += 1
+        print(" ".join([f"{name}:", *told.get(name, [])[:1], kind]))
+    print("; ".join(f"{number} {words}" for words, number in count.items() if number or words != BY_HAND))

@@ -12,7 +12,7 @@ LINE = re.compile(r'(\S+) (\w+)(?: as (\w+) (\S+))?')
 
 
 class Promise(NamedTuple):
-    """A promise: where it stands, its name, the law of another crate that is false if it is, or '', and its words, or ''."""
+    """A promise: where it stands, its name, the law of another crate, or '', and its words, or ''. If that law is false, it is."""
     place: str
     name: str
     law: str

@@ -335,7 +335,7 @@ _AT = ctypes.c_void_p  # a struct by reference, or octets
 _U8, _U32, _U64, _SIZE = ctypes.c_uint8, ctypes.c_uint32, ctypes.c_uint64, ctypes.c_size_t
 # What each function takes; but for those of _ANSWERS it answers a status.
 _TAKES: Dict[str, List[Any]] = {
-    "lapd_version": [],
+    "lapd_version": [], "lapd_image_octets": [_AT],
     "lapd_card_start": [_AT, _AT], "lapd_card_start_frames": [_AT, _AT], "lapd_card_free": [_AT],
     "lapd_card_start_timed": [_AT, _AT, _AT], "lapd_card_start_frames_timed": [_AT, _AT, _AT],
     "lapd_card_save": [_AT, _AT, _SIZE, _AT], "lapd_card_restore": [_AT, _AT, _SIZE],
@@ -360,7 +360,7 @@ _TAKES: Dict[str, List[Any]] = {
     "lapd_turned": [_U8], "lapd_frame_text": [_AT, _SIZE, ctypes.c_uint16, _AT, _SIZE],
 }
 _ANSWERS: Dict[str, Any] = {**{f"lapd_{it}_text": ctypes.c_char_p for it in ("status", "note", "cause", "counter")},
-                            "lapd_turned": ctypes.c_uint8}
+                            "lapd_turned": ctypes.c_uint8, "lapd_version": ctypes.c_uint32, "lapd_image_octets": ctypes.c_uint32}
 
 
 def _path() -> str:
@@ -478,6 +478,11 @@ class Config:
         _whole(ctypes.c_uint16, self.seed)
         words = dataclasses.asdict(self)
         return _Config(**{name: it if 0 <= it <= 0xFFFF else 0xFFFF for name, it in words.items()})
+
+    def image_octets(self) -> int:
+        """How many octets the image of such a card or clock has at most; 0 if no card starts so."""
+        octets: int = library().lapd_image_octets(ctypes.byref(self._raw()))
+        return octets
 
 
 # One line, as the network's side; as lapd.h says at LAPD_BASIC_ACCESS. Others are dataclasses.replace(BASIC_ACCESS, lines=4, ..).
@@ -631,10 +636,12 @@ class _Owner:
     """What holds memory of the library: ended by `with`, by `close`, or with the object."""
 
     _start, _free, _save, _restore = "", "", "", ""
+    _most = 1 << 15  # room for its image; of one that was restored a guess, until it is saved
 
     def __init__(self, config: Config) -> None:
         self._hold()
         self._begin(config)
+        self._most = config.image_octets()
 
     def _hold(self) -> None:
         """What is handed to the library with a call."""
@@ -646,12 +653,12 @@ class _Owner:
 
     def save(self) -> bytes:
         """Its image: octets from which `restore` begins one that goes on."""
-        length, octets = ctypes.c_size_t(), 1 << 15
+        length = ctypes.c_size_t()
         while True:
-            room = ctypes.create_string_buffer(octets)
-            if _unless(Status.WRONG_LENGTH, self._save, self._at, room, octets, ctypes.byref(length)):
+            room = ctypes.create_string_buffer(self._most)
+            if _unless(Status.WRONG_LENGTH, self._save, self._at, room, self._most, ctypes.byref(length)):
                 return room.raw[: length.value]
-            octets *= 2
+            self._most *= 2
 
     @classmethod
     def restore(cls: Type[_Owned], image: bytes) -> _Owned:

@@ -4,6 +4,7 @@
  * same calls, so both are always in the same state. When the active process is killed, the other goes on, and starts a standby of
  * its own. A standby is this program, started anew: it gets the card's image first, and from then on the calls. So one that joins
  * late knows all, and later software comes in without dropping a call: replace the program, and kill the active process twice.
+ * Build both from the same lapd.h: calls and what they led to go over as memory, and only the image is the same for every build.
  *
  *     cc -O2 -I .. -o standby standby.c ../lapd.c
  *     standby [--t200 MS] [--n200 N] <> LINE 3<> LAYER3
@@ -132,15 +133,22 @@ static void happen(const call *it) {
 
 /* ---- The standby -------------------------------------------------------------------------------------------------- */
 
+/* What the active process sent next; 0 octets or less when that is no more. */
+static ssize_t receive(void *octets, size_t room) {
+    ssize_t length;
+    while ((length = recv(OVER, octets, room, 0)) < 0 && errno == EINTR)
+        ;
+    return length;
+}
+
 /* The card is that of the image which comes first, and then the calls come that the active process makes, until that is no more. */
 static void join(void) {
     call it;
-    ssize_t length = recv(OVER, image, sizeof image, 0);
+    ssize_t length = receive(image, sizeof image);
     must(length > 0 && lapd_card_restore(&card, image, (size_t)length) == LAPD_OK, "there is no image of a card");
-    must(recv(OVER, &last, sizeof last, 0) == sizeof last, "there is no last call");
-    while ((length = recv(OVER, &it, sizeof it, 0)) > 0 || (length < 0 && errno == EINTR))
-        if (length > 0)
-            happen(&it);
+    must(receive(&last, sizeof last) == sizeof last, "there is no last call");
+    while (receive(&it, sizeof it) > 0)
+        happen(&it);
     close(OVER);
 }
 

@@ -1,7 +1,7 @@
 -- How many octets an image has at most, of a configuration that is in range.
 use Rattle.std.proofs.Common.{arith, ◌≡◌, ℕ, ◌+◌, ◌*◌, ◌≤◌, ◌<◌, Bool, true, false, cond, None, Option, Some, refl, subst, sym, ap, ◌∙◌}
 use Rattle.std.proofs.Math.Nat.{mul-le-mul}
-use Rattle.model_image.specs.Most.{most_clock, most_line, most_link, most_octets, most_teis}
+use Rattle.model_line.specs.Most.{most_clock, most_line, most_link, most_octets, most_teis}
 use Rattle.model_line.proofs.Ranges.{ranges_of}
 use Rattle.model_line.specs.Line.{is_terminal, link_count}
 use Rattle.model_line.specs.Sound.{IsInRange}

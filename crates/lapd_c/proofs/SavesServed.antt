@@ -11,7 +11,7 @@ use Rattle.lapd_frame.specs.declared.services.Service.{Service}
 use Rattle.lapd_timed.specs.Image.{kind_in}
 use Rattle.model_card.specs.Room.{room}
 use Rattle.model_image.specs.Images.{image_of, Saved}
-use Rattle.model_image.specs.Most.{most_line, most_octets}
+use Rattle.model_line.specs.Most.{most_line, most_octets}
 use Rattle.model_image.specs.Sound.{IsSaved}
 use Rattle.model_image.specs.Restored.{IsRestored}
 use Rattle.model_image.proofs.Restored.{a_restored_card_goes_on}

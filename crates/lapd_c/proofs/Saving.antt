@@ -12,7 +12,7 @@ use Rattle.model_bits.specs.Bits.{number_of}
 use Rattle.model_card.specs.Card.{Card}
 use Rattle.model_card.proofs.Reaching.{reached-sound}
 use Rattle.model_image.specs.Images.{image_of, Saved}
-use Rattle.model_image.specs.Most.{most_octets}
+use Rattle.model_line.specs.Most.{most_octets}
 use Rattle.model_image.specs.Sound.{AreMarks, IsSaved}
 use Rattle.model_image.proofs.FitsWhole.{images_fit}
 use Rattle.model_timed.specs.Clock.{Clock}

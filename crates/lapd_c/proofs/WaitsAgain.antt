@@ -13,7 +13,8 @@ use Rattle.model_card.specs.Card.{Card, line_at}
 use Rattle.model_card.specs.Room.{free, room}
 use Rattle.model_card.specs.Sound.{IsSound}
 use Rattle.model_card.proofs.Steps.{has_lines, line_sound}
-use Rattle.model_image.specs.Same.{IsSame, IsSameLine}
+use Rattle.model_image.specs.Same.{IsSame}
+use Rattle.model_line.specs.Same.{IsSameLine}
 use Rattle.model_image.specs.Images.{Saved}
 use Rattle.model_line.specs.Line.{Line, fresh_line, has_tei, link_number, link_of, place_at, tei_at, terms}
 use Rattle.model_line.specs.Room.{unless}

@@ -4,7 +4,7 @@ use Rattle.lapd_card.specs.Image.{begun_as}
 use Rattle.lapd_card.specs.Kinds.{counters_of, card_in, frames_of, kind_of, AnyStands, FrameCardStands, Machine}
 use Rattle.lapd_timed.specs.Image.{kind_in, MayBeSaved}
 use Rattle.model_image.specs.Images.{image_of, Saved}
-use Rattle.model_image.specs.Most.{most_octets}
+use Rattle.model_line.specs.Most.{most_octets}
 use Rattle.model_image.specs.Restored.{IsRestored}
 use Rattle.model_image.specs.Sound.{IsSaved}
 use Rattle.lapd_c.specs.declared.card.CardHandle.{CardHandle}

@@ -11,7 +11,7 @@ use Rattle.model_card.specs.Card.{Card}
 use Rattle.model_card.specs.Room.{room}
 use Rattle.model_card.specs.declared.kinds.CardKind.{CardKind}
 use Rattle.model_image.specs.Images.{image_of, Saved}
-use Rattle.model_image.specs.Most.{most_octets}
+use Rattle.model_line.specs.Most.{most_octets}
 use Rattle.model_image.specs.Restored.{GoesOnAs, IsRestored}
 use Rattle.model_link.specs.declared.rooms.Room.{Room}
 use Rattle.model_timed.specs.Clock.{Clock, with_lengths}

@@ -5,7 +5,7 @@ ghost use Rattle.lapd_card.specs.Kinds.{config_of};
 ghost use Rattle.lapd_image.specs.Puts.{Puts};
 ghost use Rattle.lapd_timed.specs.Image.{IsRestoredFrom};
 ghost use Rattle.model_image.specs.Images.{image_of, Saved};
-ghost use Rattle.model_image.specs.Most.{most_octets};
+ghost use Rattle.model_line.specs.Most.{most_octets};
 ghost use Rattle.model_image.specs.Sound.{IsSaved};
 ghost use Rattle.lapd_c.specs.Saves.{IsFault, IsHeldAs, IsNoImage, IsRead};
 ghost use Rattle.lapd_c.specs.Statuses as status;

@@ -8,8 +8,8 @@ use Rattle.lapd_image.proofs.Reading.{front-read}
 use Rattle.lapd_image.specs.Numbers.{number}
 use Rattle.lapd_image.specs.Reads.{IsReadAs, HasNone}
 use Rattle.model_bits.specs.Bits.{bit_value, number_of}
-use Rattle.model_image.proofs.Configs.{HasFitting, config-read}
-use Rattle.model_image.specs.Configs.{config, config_flags, is_annex_b, seed}
+use Rattle.model_line.proofs.ConfigRead.{HasFitting, config-read}
+use Rattle.model_line.specs.ConfigImage.{config, config_flags, is_annex_b, seed}
 use Rattle.model_line.specs.Sides.{is_network}
 use Rattle.lapd_card.specs.Image.{IsSavedConfig, IsSeed}
 

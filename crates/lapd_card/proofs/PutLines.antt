@@ -4,7 +4,7 @@ use Rattle.lapd_count.specs.Image.{counters}
 use Rattle.lapd_image.proofs.Puts.{puts-next, puts-same}
 use Rattle.lapd_image.specs.Puts.{Puts}
 use Rattle.lapd_line.specs.Stands.{LineStands}
-use Rattle.model_image.specs.Lines.{line}
+use Rattle.model_line.specs.Image.{line}
 use Rattle.model_line.specs.Line.{Line}
 use Rattle.lapd_card.specs.Image.{image_of_lines}
 use Rattle.lapd_card.proofs.Amounts.{call_of, of_machine}

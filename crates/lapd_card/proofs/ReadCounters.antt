@@ -5,7 +5,7 @@ use Rattle.std.proofs.Common.{length-take}
 use Rattle.lapd_count.specs.Image.{counters, IsCounted}
 use Rattle.lapd_image.specs.Reads.{IsReadAs, HasNone}
 use Rattle.lapd_line.specs.LinkLayer.{LayerStands}
-use Rattle.model_image.proofs.Lines.{counters-read}
+use Rattle.model_line.proofs.ImageRead.{counters-read}
 use Rattle.lapd_card.specs.Image.{AreCounted, StayLines}
 use Rattle.lapd_card.proofs.OneLine.{focused}
 use Rattle.lapd_card.proofs.ReadMembers.{none_more, one_more}

@@ -8,10 +8,9 @@ use Rattle.lapd_image.specs.Reads.{HasNone}
 use Rattle.lapd_image.proofs.Reading.{Reads, all-read}
 use Rattle.lapd_line.specs.Image.{Restores, HasNoLine}
 use Rattle.lapd_line.specs.Stands.{LineStands}
-use Rattle.model_image.specs.Lines.{line}
-use Rattle.model_image.specs.Same.{IsSameLine}
-use Rattle.model_image.specs.Sound.{IsWhole}
-use Rattle.model_image.proofs.Lines.{line-read}
+use Rattle.model_line.specs.Image.{line, IsWhole}
+use Rattle.model_line.specs.Same.{IsSameLine}
+use Rattle.model_line.proofs.ImageRead.{line-read}
 use Rattle.model_line.specs.Line.{Line, link_count}
 use Rattle.model_line.specs.Stored.{slots_by_link}
 use Rattle.model_line.proofs.SlotsGrow.{fresh_slots}

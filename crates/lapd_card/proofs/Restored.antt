@@ -11,7 +11,7 @@ use Rattle.lapd_line.specs.declared.marks.Marks.{Marks}
 use Rattle.lapd_store.specs.Ownership.{Owned}
 use Rattle.model_card.proofs.Reaching.{reached-first}
 use Rattle.model_card.specs.Reached.{MayBegin}
-use Rattle.model_image.specs.Sound.{IsSavedLine}
+use Rattle.model_line.specs.Image.{IsSavedLine}
 use Rattle.model_line.specs.Line.{Line, link_at}
 use Rattle.model_link.specs.Timed.{IsTimed}
 use Rattle.lapd_card.specs.Image.{Lines, image, image_of_lines, IsSavedOf, AreWhole, AreCounted, AreRead, StayLines, Restores, waits_in, WaitOn}

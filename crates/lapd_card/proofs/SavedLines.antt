@@ -3,7 +3,7 @@ use Rattle.lapd_card.proofs.Vocabulary.{◌≡◌, ℕ, ◌+◌, ◌≤◌, ◌<
 use Rattle.std.proofs.lemmas.List.{take_more}
 use Rattle.lapd_count.specs.Image.{IsCounted}
 use Rattle.lapd_line.specs.Stands.{LineStands}
-use Rattle.model_image.specs.Sound.{IsSavedLine, IsWhole}
+use Rattle.model_line.specs.Image.{IsSavedLine, IsWhole}
 use Rattle.model_line.specs.Line.{Line, link_at}
 use Rattle.model_link.specs.Timed.{IsTimed}
 use Rattle.model_timed.proofs.Running.{timed-reached}

@@ -19,8 +19,7 @@ use Rattle.model_card.specs.Reached.{MayBegin}
 use Rattle.model_card.specs.declared.kinds.CardKind.{CardKind}
 use Rattle.model_card.specs.declared.kinds.CardKind.TheVariants as kinds
 use Rattle.model_card.specs.ports.Card.{with_fresh_ports}
-use Rattle.model_image.specs.Lines.{line}
-use Rattle.model_image.specs.Sound.{IsSavedLine, IsWhole}
+use Rattle.model_line.specs.Image.{line, IsSavedLine, IsWhole}
 use Rattle.model_line.specs.Line as machine
 use Rattle.model_line.specs.Line.{fresh_line}
 use Rattle.model_line.specs.Stored.{slots_of}

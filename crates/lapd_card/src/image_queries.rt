@@ -6,8 +6,8 @@ ghost use Rattle.lapd_card.specs.Kinds.{config_of};
 ghost use Rattle.lapd_card.specs.Running.{own_timers};
 ghost use Rattle.model_card.specs.Card as machine;
 ghost use Rattle.model_card.specs.Card.{line_at};
-ghost use Rattle.model_image.specs.Clocks.{timer_numbered};
-ghost use Rattle.model_image.specs.Most.{most_octets};
+ghost use Rattle.model_line.specs.Image.{timer_numbered};
+ghost use Rattle.model_line.specs.Most.{most_octets};
 ghost use Rattle.model_line.specs.Line.{link_count, tei_at};
 ghost use Rattle.model_line.specs.Sound.{IsInRange};
 

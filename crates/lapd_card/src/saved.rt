@@ -12,7 +12,7 @@ ghost use Rattle.lapd_count.specs.Image.{counters, IsCounted};
 ghost use Rattle.lapd_image.specs.Puts.{Puts};
 ghost use Rattle.lapd_image.specs.Reads.{IsReadAs, HasNone};
 ghost use Rattle.model_card.specs.Card as machine;
-ghost use Rattle.model_image.specs.Sound.{IsWhole};
+ghost use Rattle.model_line.specs.Image.{IsWhole};
 ghost use Rattle.model_line.specs.Sound.{IsInRange};
 
 mod configs;

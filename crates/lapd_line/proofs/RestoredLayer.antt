@@ -7,9 +7,10 @@ use Rattle.lapd_image.specs.Reads.{IsReadAs, HasNone}
 use Rattle.lapd_line.specs.ImageParts.{AreSavedLinks, AreSavedTeis, AreSavedUnits, HasNoLayer, HasNoLinks, HasNoTurn, HasNoUnits, IsSavedAt, IsSavedUnit, RestoresUnits, UnitsStand, tei_in, teis_image}
 use Rattle.lapd_link.specs.Image as links
 use Rattle.lapd_tei.specs.Image as network
-use Rattle.model_image.specs.Lines as image
-use Rattle.model_image.specs.Sound.{IsSavedLink, IsWhole}
-use Rattle.model_image.proofs.Lines.{at-number}
+use Rattle.model_line.specs.Image as image
+use Rattle.model_link.specs.Image.{IsSavedLink}
+use Rattle.model_line.specs.Image.{IsWhole}
+use Rattle.model_line.proofs.ImageRead.{at-number}
 use Rattle.lapd_image.proofs.Reading.{tails, list-read}
 use Rattle.lapd_store.proofs.Ownership.{used_slots-held}
 use Rattle.lapd_line.proofs.RestoredTeis.{held_in, image_in, places_in, saved_in, teis_read}

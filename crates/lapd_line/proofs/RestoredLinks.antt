@@ -8,7 +8,7 @@ use Rattle.std.proofs.lemmas.List.{set-get_or}
 use Rattle.lapd_image.specs.Reads.{IsReadAs}
 use Rattle.lapd_line.specs.ImageParts.{HasNoLinkAt, HasNoLinkIn, LinksAwake, RestoresIn, RestoresLink}
 use Rattle.lapd_link.specs.Image as link
-use Rattle.model_image.specs.Links.{link as image}
+use Rattle.model_link.specs.Image.{link as image}
 use Rattle.model_link.specs.Link as machine
 use Rattle.lapd_line.proofs.AwakeSteps.{awake_begun, awake_set, begins_at}
 use Rattle.lapd_line.proofs.LinkSteps.{opened_stands, opened_terms, part, terms_at, terms_stay}

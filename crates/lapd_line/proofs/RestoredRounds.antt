@@ -5,8 +5,8 @@ use Rattle.std.specs.Prelude.{flat_map}
 use Rattle.std.proofs.lemmas.List.{length-replicate}
 use Rattle.lapd_link.specs.Image as link
 use Rattle.lapd_line.specs.ImageParts.{AreSavedLinks, HasNoLinkAt, HasNoLinks, IsSavedAt, LinksAwake, RestoresLink, RestoresLinks, SameButLinks, image_at, images_from, slots_at, slots_from, tei_in}
-use Rattle.model_image.specs.Lines.{link_if}
-use Rattle.model_image.proofs.Links.{link-read, small}
+use Rattle.model_line.specs.Image.{link_if}
+use Rattle.model_link.proofs.ImageRead.{link-read, small}
 use Rattle.model_link.specs.Link as machine
 use Rattle.model_link.specs.Link.{queue_of}
 use Rattle.lapd_line.proofs.AwakeSteps.{all_fresh}

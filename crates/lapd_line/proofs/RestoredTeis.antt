@@ -11,12 +11,11 @@ use Rattle.lapd_tei.specs.Sound as tei
 use Rattle.lapd_tei.proofs.SoundWords.{memory-empty, queue-empty}
 use Rattle.lapd_terminal.specs.Image as terminal
 use Rattle.lapd_terminal.specs.Machine.{Terminal}
-use Rattle.model_image.specs.Lines as image
-use Rattle.model_image.specs.Sound.{IsWhole}
+use Rattle.model_line.specs.Image as image
+use Rattle.model_line.specs.Image.{IsWhole}
 use Rattle.lapd_image.proofs.Reading.{front-read, split}
 use Rattle.lapd_tei.proofs.ImageRead.{places-read, management-read}
-use Rattle.model_image.proofs.Lines.{procedure-fits}
-use Rattle.model_image.proofs.Teis.{own-read}
+use Rattle.model_line.proofs.ImageRead.{procedure-fits, own-read}
 use Rattle.model_line.specs.Sound.{IsUnused}
 use Rattle.model_line.proofs.Checks.{unused-due, unused-read}
 

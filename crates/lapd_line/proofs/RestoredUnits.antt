@@ -9,8 +9,8 @@ use Rattle.lapd_image.specs.Reads.{IsReadAs}
 use Rattle.lapd_line.specs.ImageParts.{IsSavedUnit, AreSavedUnits, UnitsStand, UnitComes, RestoresUnit, RestoresUnits, HasNoUnit, HasNoUnits}
 use Rattle.lapd_store.specs.Store.{IsFree}
 use Rattle.lapd_store.proofs.Ownership.{Holds-put, used_slots-held}
-use Rattle.model_image.specs.Lines.{unit}
-use Rattle.model_image.proofs.Lines.{unit-read}
+use Rattle.model_line.specs.Image.{unit}
+use Rattle.model_line.proofs.ImageRead.{unit-read}
 use Rattle.lapd_image.proofs.Reading.{tails, Reads, contents-read}
 use Rattle.lapd_image.proofs.ReadLists.{IsKept, read-more, list-none}
 use Rattle.lapd_line.proofs.UnitSteps.{for_newest, newest_held}

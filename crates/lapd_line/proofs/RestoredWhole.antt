@@ -10,8 +10,9 @@ use Rattle.lapd_image.specs.Reads.{IsReadAs}
 use Rattle.lapd_line.specs.ImageParts.{AreSavedLinks, AreSavedTeis, AreSavedUnits, IsSavedAt, LinksAwake, RestoresLayer, RestoresLinks, RestoresUnits, SameButLinks, UnitsStand, tei_in, teis_image}
 use Rattle.lapd_store.proofs.Ownership.{Holds-second}
 use Rattle.model_bits.specs.StuffingLaws.{AreOctets}
-use Rattle.model_image.specs.Lines as image
-use Rattle.model_image.specs.Sound.{IsSavedLink, IsWhole}
+use Rattle.model_line.specs.Image as image
+use Rattle.model_link.specs.Image.{IsSavedLink}
+use Rattle.model_line.specs.Image.{IsWhole}
 use Rattle.model_link.specs.Link as machine
 use Rattle.model_link.specs.Timed.{IsTimed}
 use Rattle.lapd_line.proofs.SavedSteps.{managed_image}

@@ -5,7 +5,8 @@ use Rattle.lapd_frame.specs.declared.timers.Timer.{Timer}
 use Rattle.lapd_frame.specs.declared.timers.Timer.TheVariants.{T201, T202}
 use Rattle.lapd_line.specs.Running.{own_timers, timers_of}
 use Rattle.lapd_line.specs.declared.managing.Managing.TheVariants as kind
-use Rattle.model_image.specs.Clocks.{timer_at, timer_numbered, timer_of}
+use Rattle.model_line.specs.Image.{timer_at, timer_numbered}
+use Rattle.model_link.specs.Image.{timer_of}
 use Rattle.model_link.specs.Link as machine
 use Rattle.lapd_line.proofs.LayerSteps.{beside_links, links_part}
 use Rattle.lapd_line.proofs.LinkSteps.{of_part}

@@ -7,7 +7,7 @@ use Rattle.std.proofs.Math.Seq.{take-suc}
 use Rattle.std.proofs.lemmas.List.Elements.{All-more}
 use Rattle.model_bits.specs.StuffingLaws.{AreOctets}
 use Rattle.std.proofs.lemmas.Grind.{flat_map-append}
-use Rattle.model_image.specs.Links.{link}
+use Rattle.model_link.specs.Image.{link}
 use Rattle.model_link.specs.Link.{Link}
 use Rattle.lapd_image.specs.Numbers.{list_of}
 use Rattle.lapd_image.specs.Puts.{Puts}
@@ -16,8 +16,8 @@ use Rattle.lapd_line.specs.Units.{slots_of, slot_of}
 use Rattle.lapd_line.specs.declared.managing.Managing.TheVariants as kind
 use Rattle.lapd_tei.specs.Image.{place, management}
 use Rattle.lapd_tei.specs.Machine.{Management}
-use Rattle.model_image.specs.Lines as image
-use Rattle.model_image.specs.Teis.{own}
+use Rattle.model_line.specs.Image as image
+use Rattle.model_line.specs.Image.{own}
 use Rattle.model_line.specs.Stored.{unit_contents}
 use Rattle.lapd_image.proofs.Puts.{puts-then, puts-same}
 use Rattle.lapd_line.proofs.PullTakesUnits.{as_many, beside_units}

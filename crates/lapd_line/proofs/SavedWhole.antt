@@ -4,7 +4,8 @@ use Rattle.std.proofs.lemmas.List.Elements.{All-from_get_or}
 use Rattle.lapd_line.specs.ImageParts.{AreSavedTeis}
 use Rattle.lapd_link.specs.Image.{IsSaved}
 use Rattle.model_bits.specs.StuffingLaws.{AreOctets}
-use Rattle.model_image.specs.Sound.{IsSavedLink, IsWhole}
+use Rattle.model_link.specs.Image.{IsSavedLink}
+use Rattle.model_line.specs.Image.{IsWhole}
 use Rattle.lapd_tei.specs.Messages.{information_of}
 use Rattle.lapd_terminal.specs.Messages as terminals
 use Rattle.lapd_tei.specs.Image.{HasRi}

@@ -5,8 +5,7 @@ use Rattle.lapd_line.specs.Stands.{LineStands, config_of}
 use Rattle.lapd_line.specs.declared.frame_line.FrameLine.{FrameLine}
 use Rattle.lapd_store.specs.Ownership.{Owned}
 use Rattle.lapd_store.specs.Store.{Store, used_slots}
-use Rattle.model_image.specs.Lines.{line}
-use Rattle.model_image.specs.Sound.{IsWhole}
+use Rattle.model_line.specs.Image.{line, IsWhole}
 use Rattle.model_line.specs.Line as machine
 use Rattle.model_line.specs.Stored.{slots_of}
 

@@ -20,9 +20,8 @@ use Rattle.lapd_tei.specs.Image as network
 use Rattle.lapd_tei.specs.Table.{Places}
 use Rattle.lapd_terminal.specs.Image as terminal
 use Rattle.model_bits.specs.StuffingLaws.{AreOctets}
-use Rattle.model_image.specs.Lines.{line, link_if, unit}
-use Rattle.model_image.specs.Links.{link}
-use Rattle.model_image.specs.Sound.{IsWhole}
+use Rattle.model_line.specs.Image.{line, link_if, unit, IsWhole}
+use Rattle.model_link.specs.Image.{link}
 use Rattle.model_line.specs.declared.config.Config.{Config}
 use Rattle.model_line.specs.Line.{Line, UnitData, fresh_line, link_count, place_at, service_at, terms}
 use Rattle.model_line.specs.Stored.{slots_of}

@@ -3,7 +3,7 @@
 ghost use Rattle.std.specs.Prelude.{◌≡◌, ◌<◌, List, IfSome, option_to_list};
 ghost use Rattle.lapd_line.specs.Running.{own_timers, timers_of};
 ghost use Rattle.lapd_line.specs.{Owned, Store, config_of, link_count};
-ghost use Rattle.model_image.specs.Clocks.{timer_numbered};
+ghost use Rattle.model_line.specs.Image.{timer_numbered};
 ghost use Rattle.model_line.specs.Line as machine;
 
 use crate::frame_line::FrameLine;

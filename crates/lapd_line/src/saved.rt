@@ -6,8 +6,8 @@ ghost use Rattle.lapd_image.specs.Puts.{Puts};
 ghost use Rattle.lapd_image.specs.Reads.{IsReadAs, HasNone};
 ghost use Rattle.lapd_line.specs.{Owned, used_slots, SameLimits, config_of};
 ghost use Rattle.lapd_line.specs.Image.{Restores, HasNoLine};
-ghost use Rattle.model_image.specs.Lines as image;
-ghost use Rattle.model_image.specs.Sound.{IsWhole};
+ghost use Rattle.model_line.specs.Image as image;
+ghost use Rattle.model_line.specs.Image.{IsWhole};
 ghost use Rattle.model_line.specs.Line as machine;
 ghost use Rattle.model_link.specs.Timed.{IsTimed};
 

@@ -9,7 +9,7 @@ use Rattle.lapd_image.specs.Numbers.{contents, list_of}
 use Rattle.lapd_link.specs.Image.{IsSaved}
 use Rattle.lapd_link_steps.specs.Image.{IsSmall, head}
 use Rattle.model_bits.specs.StuffingLaws.{AreOctets}
-use Rattle.model_image.specs.Links.{control_frame, counted_of, link}
+use Rattle.model_link.specs.Image.{control_frame, counted_of, link}
 use Rattle.model_link.specs.Link as machine
 use Rattle.model_link.specs.Timed.{IsTimed}
 

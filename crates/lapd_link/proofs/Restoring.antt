@@ -17,9 +17,9 @@ use Rattle.lapd_seq.proofs.Callers.{is_seq}
 use Rattle.lapd_seq.proofs.Remainders.{numbers-of}
 use Rattle.lapd_seq.specs.Windows.{outstanding_of, va_of}
 use Rattle.model_bits.specs.StuffingLaws.{AreOctets}
-use Rattle.model_image.proofs.Links.{link-read, small}
-use Rattle.model_image.specs.Links.{control_frame, link}
-use Rattle.model_image.specs.Same.{IsSameLink}
+use Rattle.model_link.proofs.ImageRead.{link-read, small}
+use Rattle.model_link.specs.Image.{control_frame, link}
+use Rattle.model_link.specs.Same.{IsSameLink}
 use Rattle.model_link.specs.Link as machine
 use Rattle.model_link.specs.declared.states.State.TheVariants.{TeiAssigned, AwaitingEstablishment, AwaitingRelease, Established, TimerRecovery}
 use Rattle.model_link.specs.Sound.{IsSettledIn}

@@ -7,7 +7,7 @@ use Rattle.lapd_link.specs.Stands.{LinkStands, slots_of, terms_of}
 use Rattle.lapd_store.specs.Ownership.{Keeps, Owned}
 use Rattle.lapd_store.specs.Store.{Store, used_slots}
 use Rattle.model_bits.specs.StuffingLaws.{AreOctets}
-use Rattle.model_image.specs.Links.{counted_of, link}
+use Rattle.model_link.specs.Image.{counted_of, link}
 use Rattle.model_link.specs.declared.terms.Terms.{Terms}
 use Rattle.model_link.specs.Link as machine
 use Rattle.model_link.specs.Sound.{IsSound}

@@ -4,7 +4,7 @@ ghost use Rattle.std.specs.Prelude.{◌≡◌, List, ◌≤◌, IfOk};
 ghost use Rattle.std.specs.Option.{option_to_list};
 ghost use Rattle.lapd_link.specs.{Store, Owned, Holds, TeiAssigned, address_at, held, terms_of};
 ghost use Rattle.lapd_frame.specs.declared.readings.Reading.TheVariants.{Profile};
-ghost use Rattle.model_image.specs.Clocks.{timer_of};
+ghost use Rattle.model_link.specs.Image.{timer_of};
 ghost use Rattle.model_link.specs.Link as machine;
 ghost use Rattle.model_link.specs.Sound.{IsInRange};
 

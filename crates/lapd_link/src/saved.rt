@@ -6,7 +6,7 @@ ghost use Rattle.lapd_image.specs.Puts.{Puts};
 ghost use Rattle.lapd_link.specs.{Keeps, Store, Owned, terms_of};
 ghost use Rattle.lapd_link.specs.Image.{IsSaved};
 ghost use Rattle.model_bits.specs.StuffingLaws.{AreOctets};
-ghost use Rattle.model_image.specs.Links as image;
+ghost use Rattle.model_link.specs.Image as image;
 ghost use Rattle.model_link.specs.Link as machine;
 ghost use Rattle.model_link.specs.Timed.{IsTimed};
 

@@ -11,8 +11,8 @@ use Rattle.lapd_image.specs.Numbers.{list_of}
 use Rattle.lapd_image.specs.Reads.{HasNone, IsReadAs}
 use Rattle.lapd_link_steps.specs.Image.{AreWaiting, MayWait}
 use Rattle.model_bits.specs.Bits.{bit_value}
-use Rattle.model_image.proofs.Links.{frame-read}
-use Rattle.model_image.specs.Links.{control_frame}
+use Rattle.model_link.proofs.ImageRead.{frame-read}
+use Rattle.model_link.specs.Image.{control_frame}
 use Rattle.model_link.specs.Sound.{IsWaitingFrame}
 use Rattle.lapd_frame.specs.Services.{sapi_of}
 use Rattle.lapd_frame.specs.declared.services.Service.{Service}

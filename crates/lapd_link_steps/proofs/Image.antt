@@ -9,7 +9,7 @@ use Rattle.lapd_link_steps.specs.Image.{IsHead, head, octets_of}
 use Rattle.lapd_link_steps.specs.declared.heads.Octets.{Octets}
 use Rattle.lapd_seq.proofs.Callers.{seq-value}
 use Rattle.model_bits.specs.Bits.{number_of}
-use Rattle.model_image.specs.Links.{counts, link_flags}
+use Rattle.model_link.specs.Image.{counts, link_flags}
 use Rattle.model_link.specs.declared.counts.LinkCounts.{LinkCounts}
 use Rattle.model_link.specs.Link.{state_number}
 

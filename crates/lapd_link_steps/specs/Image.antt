@@ -3,7 +3,7 @@ use Rattle.std.specs.Prelude.{◌≡◌, ℕ, ◌+◌, ◌*◌, ◌%◌, ◌≤�
 use Rattle.lapd_frame.specs.Grammar.{allows, row, takes}
 use Rattle.lapd_seq.specs.Windows.{outstanding_of, va_of}
 use Rattle.model_bits.specs.Bits.{bit_value, number_of}
-use Rattle.model_image.specs.Links.{counted_of, counts, link_flags}
+use Rattle.model_link.specs.Image.{counted_of, counts, link_flags}
 use Rattle.model_link.specs.declared.frames.ControlFrame.{ControlFrame}
 use Rattle.model_link.specs.declared.states.State.{State}
 use Rattle.model_link.specs.declared.states.State.TheVariants.{TeiAssigned, AwaitingEstablishment, AwaitingRelease, Established, TimerRecovery}
@@ -17,7 +17,7 @@ use Rattle.lapd_link_steps.specs.declared.entity.Entity.{Entity}
 use Rattle.lapd_link_steps.specs.declared.heads.Octets.{Octets}
 use Rattle.lapd_link_steps.specs.Past.{link_of}
 
--- What an image has of a link before its contents (`link` of `model_image`).
+-- What an image has of a link before its contents (`link` of `model_link`).
 abbrev pub head : Link → List ℕ
 head l =
     state_number l.state ∷ number_of (link_flags l) ∷ l.repeats ∷ l.a % 128 ∷ outstanding l ∷ l.r % 128 ∷ l.again ∷ counts l.counts

@@ -8,7 +8,7 @@ ghost use Rattle.lapd_link_steps.specs.{Link, Rests, Terms, link_of, outstanding
 ghost use Rattle.lapd_link_steps.specs.Image.{IsFit, IsHead, IsSettled, IsSmall, IsTimed, head, octets_of, restored, timer_bits};
 ghost use Rattle.lapd_link_steps.specs.Past.{Past};
 ghost use Rattle.model_bits.specs.Bits.{bit_value, number_of};
-ghost use Rattle.model_image.specs.Links as image;
+ghost use Rattle.model_link.specs.Image as image;
 ghost use Rattle.model_link.specs.declared.states.State.{State};
 ghost use Rattle.model_link.specs.declared.timers.LinkTimer.{LinkTimer};
 ghost use Rattle.model_link.specs.Link.{state_number};

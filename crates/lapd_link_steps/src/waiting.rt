@@ -9,7 +9,7 @@ ghost use Rattle.lapd_frame.specs.Grammar.{row};
 ghost use Rattle.lapd_link_steps.specs.{ControlFrame};
 ghost use Rattle.model_bits.specs.Bits.{bit_value};
 ghost use Rattle.lapd_link_steps.specs.Image.{AreWaiting, MayWait};
-ghost use Rattle.model_image.specs.Links as image;
+ghost use Rattle.model_link.specs.Image as image;
 
 use crate::entity::Entity;
 use lapd_frame::{Address, Control, Frame, Side, read, write};

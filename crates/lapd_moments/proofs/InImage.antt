@@ -13,9 +13,10 @@ use Rattle.model_link.specs.Told as told
 use Rattle.model_line.specs.Line.{Line, link_at, place_at, service_at, tei_at}
 use Rattle.model_card.specs.Card.{Card, line_at}
 use Rattle.model_timed.specs.Clock.{Clock}
-use Rattle.model_image.specs.Clocks.{moment, moments, moments_at, timer_at, timer_numbered}
+use Rattle.model_image.specs.Clocks.{moment, moments, moments_at}
+use Rattle.model_line.specs.Image.{timer_at, timer_numbered}
 use Rattle.model_image.proofs.Clocks.{flat-same}
-use Rattle.model_image.proofs.Lines.{below}
+use Rattle.model_line.proofs.Numbers.{below}
 use Rattle.lapd_moments.specs.Image.{moment_at, link_moments, own_moments, line_moments, all_moments, line_runs, RunsHere}
 use Rattle.lapd_moments.specs.OfCard.{slot_of, line_slot_of, timer_of, line_timer, Holds, AreApart}
 use Rattle.lapd_moments.specs.Places.{at, is_running, timers_in, without_timer, IsItsPlace}

@@ -11,9 +11,9 @@ use Rattle.model_link.specs.declared.timers.LinkTimer.TheVariants as link
 use Rattle.model_link.specs.Told as told
 use Rattle.model_line.specs.Line.{Line, link_at, place_at, service_at, tei_at}
 use Rattle.model_card.specs.Card.{Card, line_at}
-use Rattle.model_image.specs.Clocks.{timer_at, timer_numbered}
+use Rattle.model_line.specs.Image.{timer_at, timer_numbered}
 use Rattle.model_image.proofs.Clocks.{flat-same}
-use Rattle.model_image.proofs.Lines.{below}
+use Rattle.model_line.proofs.Numbers.{below}
 use Rattle.lapd_moments.specs.Image.{moment_at, link_moments, links_moments, own_moments, line_moments, link_runs, line_runs, IsStartedBy, RunsHere}
 use Rattle.lapd_moments.specs.OfCard.{slot_of, line_slot_of, timer_of, line_timer}
 use Rattle.lapd_moments.specs.OfCard as of_card

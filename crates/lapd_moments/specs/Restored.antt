@@ -7,7 +7,8 @@ use Rattle.lapd_moments.specs.Image.{link_moments, links_moments, own_moments, l
 use Rattle.lapd_moments.specs.OfCard.{Holds, slot_of, line_slot_of}
 use Rattle.lapd_moments.specs.Places.{at, is_running}
 use Rattle.model_card.specs.Card.{Card, line_at}
-use Rattle.model_image.specs.Clocks.{moment, moments_at, timer_numbered}
+use Rattle.model_image.specs.Clocks.{moment, moments_at}
+use Rattle.model_line.specs.Image.{timer_numbered}
 use Rattle.model_line.specs.Line.{tei_at}
 use Rattle.model_link.specs.declared.timers.LinkTimer.{LinkTimer}
 use Rattle.model_timed.specs.Clock.{Clock}

@@ -4,7 +4,7 @@ ghost use Rattle.std.specs.Prelude.{◌≡◌, ◌<◌, ◌≤◌, ◌^◌, take
 ghost use Rattle.lapd_script.specs.Meaning as meaning;
 ghost use Rattle.lapd_sim.specs.{on};
 ghost use Rattle.lapd_sim.specs.machine.Setup as machine;
-ghost use Rattle.model_image.specs.Most.{most_octets};
+ghost use Rattle.model_line.specs.Most.{most_octets};
 ghost use Rattle.model_line.specs.Sound.{IsInRange};
 
 use crate::exchange::written;

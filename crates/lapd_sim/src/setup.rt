@@ -5,7 +5,7 @@ ghost use Rattle.lapd_card.specs.Kinds.{config_of, kind_of};
 ghost use Rattle.lapd_script.specs.Meaning as meaning;
 ghost use Rattle.model_card.specs.declared.kinds.CardKind.TheVariants.{Frames, Octets};
 ghost use Rattle.lapd_sim.specs.machine.Setup as machine;
-ghost use Rattle.model_image.specs.Most.{most_octets};
+ghost use Rattle.model_line.specs.Most.{most_octets};
 ghost use Rattle.model_line.specs.Sound.{IsInRange};
 
 use crate::exchange::{tell, written};

@@ -23,14 +23,15 @@ use Rattle.model_card.specs.declared.kinds.CardKind.{CardKind}
 use Rattle.model_card.specs.declared.kinds.CardKind.TheVariants as kinds
 use Rattle.model_card.proofs.Steps.{has_lines, line_sound as sound_line}
 use Rattle.model_image.specs.Clocks.{clock, lengths, moment, moments, moments_at}
-use Rattle.model_image.specs.Configs.{config}
+use Rattle.model_line.specs.ConfigImage.{config}
 use Rattle.model_image.specs.Images.{marks}
-use Rattle.model_image.specs.Lines.{line}
-use Rattle.model_image.specs.Same.{IsSameLine}
-use Rattle.model_image.specs.Sound.{AreChanges, AreMarks, IsClockOf, IsSavedLine}
+use Rattle.model_line.specs.Image.{line, IsSavedLine}
+use Rattle.model_line.specs.Same.{IsSameLine}
+use Rattle.model_image.specs.Sound.{AreChanges, AreMarks, IsClockOf}
 use Rattle.model_image.proofs.Clocks.{flat-same, running-same, timers-at}
-use Rattle.model_image.proofs.Configs.{HasFitting, config-read}
-use Rattle.model_image.proofs.Lines.{IsWhole, below, counters-read, line-read}
+use Rattle.model_line.proofs.ConfigRead.{HasFitting, config-read}
+use Rattle.model_line.proofs.ImageRead.{IsWhole, counters-read, line-read}
+use Rattle.model_line.proofs.Numbers.{below}
 use Rattle.model_image.proofs.Whole.{all-both}
 use Rattle.model_line.specs.Line.{Line, fresh_line, place_at}
 use Rattle.model_line.specs.Sound as line_sound

@@ -16,7 +16,8 @@ use Rattle.lapd_moments.specs.Image.{IsStartedBy}
 use Rattle.lapd_moments.specs.Restored.{line_part, links_part, own_part, FallsUntil, Passes}
 use Rattle.lapd_moments.proofs.InImage.{flat-flat}
 use Rattle.model_card.specs.Card.{Card, line_at}
-use Rattle.model_image.specs.Clocks.{moment, timer_numbered}
+use Rattle.model_image.specs.Clocks.{moment}
+use Rattle.model_line.specs.Image.{timer_numbered}
 use Rattle.model_timed.specs.Clock.{Clock}
 
 -- what a clock has of any timer is a moment in time

@@ -13,8 +13,8 @@ use Rattle.lapd_image.specs.Numbers.{number}
 use Rattle.model_bits.specs.Bits.{number_of}
 use Rattle.model_card.specs.declared.kinds.CardKind.{CardKind}
 use Rattle.model_card.specs.declared.kinds.CardKind.TheVariants as kinds
-use Rattle.model_image.specs.Configs.{config}
-use Rattle.model_image.specs.Lines.{line}
+use Rattle.model_line.specs.ConfigImage.{config}
+use Rattle.model_line.specs.Image.{line}
 use Rattle.lapd_moments.specs.Image.{all_moments}
 use Rattle.lapd_moments.specs.OfCard.{AreApart}
 use Rattle.lapd_moments.proofs.InImage.{card-octets}

@@ -14,7 +14,8 @@ use Rattle.lapd_image.proofs.Reading.{front-read, length-each, length-number, nu
 use Rattle.lapd_moments.specs.Restored.{lines_part, FallsUntil, Passes}
 use Rattle.lapd_moments.proofs.InImage.{flat-flat}
 use Rattle.model_card.specs.Card.{Card, line_at}
-use Rattle.model_image.specs.Clocks.{lengths, moment, moments, moments_at, timers}
+use Rattle.model_image.specs.Clocks.{lengths, moment, moments, moments_at}
+use Rattle.model_line.specs.Image.{timers}
 use Rattle.model_image.specs.Images.{changes}
 use Rattle.model_image.specs.Sound.{AreChanges, AreMoments, IsClockOf}
 use Rattle.model_line.specs.Line.{link_count}

@@ -15,8 +15,8 @@ use Rattle.model_card.specs.Sound.{IsSound}
 use Rattle.model_card.specs.declared.kinds.CardKind.{CardKind}
 use Rattle.model_card.specs.declared.kinds.CardKind.TheVariants as kinds
 use Rattle.model_image.specs.Clocks.{clock}
-use Rattle.model_image.specs.Configs.{config}
-use Rattle.model_image.specs.Lines.{line}
+use Rattle.model_line.specs.ConfigImage.{config}
+use Rattle.model_line.specs.Image.{line}
 use Rattle.model_image.specs.Images.{changes, image_of, marks, Saved}
 use Rattle.model_image.specs.Sound.{AreChanges, AreMarks, IsClockOf, IsSaved}
 use Rattle.model_timed.specs.Clock.{Clock}

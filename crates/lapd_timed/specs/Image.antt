@@ -14,7 +14,7 @@ use Rattle.model_card.specs.Card.{Card, line_at}
 use Rattle.model_card.specs.declared.kinds.CardKind.{CardKind}
 use Rattle.model_card.specs.declared.kinds.CardKind.TheVariants as kinds
 use Rattle.model_image.specs.Clocks.{clock}
-use Rattle.model_image.specs.Configs.{config}
+use Rattle.model_line.specs.ConfigImage.{config}
 use Rattle.model_image.specs.Images.{Saved, changes, marks}
 use Rattle.model_image.specs.Images.{marks as marks_of}
 use Rattle.model_image.specs.Restored.{IsRestored}

@@ -16,18 +16,19 @@ use Rattle.model_card.specs.Card.{Card, line_at}
 use Rattle.model_card.proofs.Steps.{has_lines, line_sound}
 use Rattle.model_timed.specs.Clock.{Clock}
 use Rattle.lapd_image.specs.Numbers.{number, list_of, contents}
-use Rattle.model_image.specs.Configs.{config}
-use Rattle.model_image.specs.Links.{control_frame, counts, link}
+use Rattle.model_line.specs.ConfigImage.{config}
+use Rattle.model_link.specs.Image.{control_frame, counts, link}
 use Rattle.lapd_tei.specs.Image.{place, management}
-use Rattle.model_image.specs.Teis.{own}
+use Rattle.model_line.specs.Image.{own, unit, teis, link_if, link_numbered, line, timers}
 use Rattle.lapd_count.specs.Image.{counters}
-use Rattle.model_image.specs.Lines.{unit, teis, link_if, link_numbered, line}
-use Rattle.model_image.specs.Clocks.{timers, moment, moments_at, moments, lengths, clock}
+use Rattle.model_image.specs.Clocks.{moment, moments_at, moments, lengths, clock}
 use Rattle.model_image.specs.Images.{marks, changes}
 use Rattle.model_image.specs.Laws.{ImagesTellNoMore}
-use Rattle.model_image.specs.Same.{IsSameLink, IsSameLine, AreSameClocks}
+use Rattle.model_link.specs.Same.{IsSameLink}
+use Rattle.model_line.specs.Same.{IsSameLine}
+use Rattle.model_image.specs.Same.{AreSameClocks}
 use Rattle.model_image.proofs.Clocks.{flat-same, timers-at}
-use Rattle.model_image.proofs.Lines.{below}
+use Rattle.model_line.proofs.Numbers.{below}
 
 -- links
 link-again : (l m : Link) → IsSameLink l m → link l ≡ link m

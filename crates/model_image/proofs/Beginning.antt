@@ -22,7 +22,9 @@ use Rattle.model_timed.proofs.Running.{run-fresh}
 use Rattle.model_image.specs.Images.{begun, none_changed}
 use Rattle.model_image.specs.Laws.{CardsBeginSaved}
 use Rattle.lapd_count.specs.Image.{IsCounted}
-use Rattle.model_image.specs.Sound.{IsSavedLink, IsSavedLine, AreMarks, IsClockOf, AreMoments, AreChanges, IsSaved}
+use Rattle.model_link.specs.Image.{IsSavedLink}
+use Rattle.model_line.specs.Image.{IsSavedLine}
+use Rattle.model_image.specs.Sound.{AreMarks, IsClockOf, AreMoments, AreChanges, IsSaved}
 
 -- the other sides use no reference number
 unused : (b : Bool) (n : ℕ) → b ≡ false → cond b n 0 ≡ 0

@@ -15,16 +15,17 @@ use Rattle.model_link.specs.declared.timers.LinkTimer.TheVariants as running
 use Rattle.model_line.specs.Expiry.{runs_at, is_running}
 use Rattle.model_line.specs.declared.config.Config.{Config}
 use Rattle.model_line.specs.Line.{Line, Own, link_number, link_count, link_at, service_at, place_at, place_in, tei_at}
-use Rattle.model_line.proofs.Numbers.{place_at-number, service_at-number}
+use Rattle.model_line.proofs.Numbers.{place_at-number, service_at-number, at, below, within-range}
 use Rattle.model_card.specs.Card.{Card, line_at}
 use Rattle.model_timed.specs.Clock.{Clock}
 use Rattle.model_timed.proofs.Orders.{held-is}
 use Rattle.lapd_image.specs.Numbers.{number}
-use Rattle.model_image.specs.Clocks.{timer_at, timer_numbered, timers, moment, moments_at, moments, lengths, clock}
-use Rattle.model_image.specs.Same.{IsSameLine, IsSameClock}
+use Rattle.model_line.specs.Image.{timer_at, timer_numbered, timers}
+use Rattle.model_image.specs.Clocks.{moment, moments_at, moments, lengths, clock}
+use Rattle.model_line.specs.Same.{IsSameLine}
+use Rattle.model_image.specs.Same.{IsSameClock}
 use Rattle.model_image.specs.Sound.{IsClockOf}
 use Rattle.lapd_image.proofs.Reading.{split, Reads, number-read}
-use Rattle.model_image.proofs.Lines.{at, below, within-range}
 
 -- What is in a list.
 module _ {A : Type 0} where

@@ -4,7 +4,8 @@ use Rattle.std.specs.List.{range_with_len}
 use Rattle.std.specs.Prelude.{All, IfSome, flat_map, map, sum_by}
 use Rattle.std.proofs.lemmas.List.Elements.{All-drop, All-from_get_or}
 use Rattle.std.proofs.lemmas.List.FromFn.{length-range_with_len}
-use Rattle.lapd_clock.specs.Timer.{rank_of_service, Service, Call, Packet}
+use Rattle.lapd_frame.specs.declared.services.Service.{Service}
+use Rattle.lapd_frame.specs.declared.services.Service.TheVariants.{Call, Packet}
 use Rattle.lapd_tei.specs.Machine.{Management}
 use Rattle.lapd_tei.specs.Messages.{information_of}
 use Rattle.lapd_tei.specs.Sound as tei
@@ -39,16 +40,15 @@ use Rattle.model_line.specs.Sound.{IsInRange, IsSound, IsSoundAt, IsOfSide, IsUn
 use Rattle.model_line.specs.Stored.{slots_by_link, slots_of}
 use Rattle.model_line.proofs.Ranges.{Ranges, ranges_of}
 use Rattle.lapd_image.specs.Numbers.{number, list_of, contents}
-use Rattle.model_image.specs.Configs.{config_flags, seed, config}
-use Rattle.model_image.specs.Links.{control_frame, link_flags, counted_of, counts, link}
+use Rattle.model_line.specs.ConfigImage.{config_flags, seed, config}
+use Rattle.model_link.specs.Image.{control_frame, link_flags, counted_of, counts, link, IsSavedLink}
 use Rattle.lapd_tei.specs.Image.{place, remembered, period_number, check, management}
 use Rattle.lapd_terminal.specs.Image.{procedure}
-use Rattle.model_image.specs.Teis.{own}
-use Rattle.model_image.specs.Lines.{unit, teis, link_if, link_numbered, line}
-use Rattle.model_image.specs.Most.{most_teis, most_link}
-use Rattle.model_image.specs.Sound.{IsSavedLink, IsSavedLine}
+use Rattle.model_line.specs.Image.{own, service_bit, unit, teis, link_if, link_numbered, line, IsSavedLine}
+use Rattle.model_line.specs.Most.{most_teis, most_link}
 use Rattle.model_image.proofs.Fits.{Fits, fits-less, fits-nil, fits-cons, fits-append, fits-number, fits-each, fits-all, fits-list, HasContents, fits-contents, field-fits}
-use Rattle.model_image.proofs.Lines.{at-number, below}
+use Rattle.model_line.proofs.ImageRead.{at-number}
+use Rattle.model_line.proofs.Numbers.{below}
 
 -- the bits of at most eight tests
 pub bits-small : (bs : List Bool) → length bs ≤ 8 → number_of bs < 256
@@ -220,9 +220,9 @@ HasUnit most u = (u.tei ≤ 127) × HasContents most u.contents
 
 unit-fits : (most : ℕ) (u : UnitData) → HasUnit most u → Fits (1 + (2 + most)) (unit u)
 unfolding HasUnit
-unit-fits most u has = fits-cons (2 * u.tei + rank_of_service u.service) (2 + most) (contents u.contents) (small u.service has.0) (fits-contents most u.contents has.1)
+unit-fits most u has = fits-cons (2 * u.tei + service_bit u.service) (2 + most) (contents u.contents) (small u.service has.0) (fits-contents most u.contents has.1)
   where
-    small : (s : Service) → u.tei ≤ 127 → 2 * u.tei + rank_of_service s < 256
+    small : (s : Service) → u.tei ≤ 127 → 2 * u.tei + service_bit s < 256
     small Call h = omega (arith, h)
     small Packet h = omega (arith, h)
 

@@ -22,18 +22,18 @@ use Rattle.model_card.proofs.Steps.{has_lines, line_sound as sound_line}
 use Rattle.lapd_tei.specs.Machine.{Management}
 use Rattle.model_timed.specs.Clock.{Clock}
 use Rattle.lapd_image.specs.Numbers.{number}
-use Rattle.model_image.specs.Configs.{config}
+use Rattle.model_line.specs.ConfigImage.{config}
 use Rattle.lapd_count.specs.Image.{counters}
-use Rattle.model_image.specs.Lines.{line}
-use Rattle.model_image.specs.Clocks.{timer_at, timer_numbered, timers, moment, moments_at, moments, lengths, clock}
+use Rattle.model_line.specs.Image.{line, timer_at, timer_numbered, timers, IsSavedLine}
+use Rattle.model_image.specs.Clocks.{moment, moments_at, moments, lengths, clock}
 use Rattle.model_image.specs.Images.{Saved, marks, changes, head, image_of}
 use Rattle.model_image.specs.Laws.{ImagesAreOctets, ImagesFit}
-use Rattle.model_image.specs.Most.{most_clock, most_octets}
+use Rattle.model_line.specs.Most.{most_clock, most_octets}
 use Rattle.lapd_count.specs.Image.{IsCounted}
-use Rattle.model_image.specs.Sound.{IsSavedLine, AreMoments, AreChanges, IsSaved}
+use Rattle.model_image.specs.Sound.{AreMoments, AreChanges, IsSaved}
 use Rattle.model_image.proofs.Fits.{Fits, fits-less, fits-nil, fits-cons, fits-append, fits-number, fits-each, fits-all}
 use Rattle.model_image.proofs.FitsParts.{config-fits, short_line, line-fits, bits-small}
-use Rattle.model_image.proofs.Lines.{below}
+use Rattle.model_line.proofs.Numbers.{below}
 use Rattle.model_image.proofs.Whole.{all-both}
 
 -- the counters of a line

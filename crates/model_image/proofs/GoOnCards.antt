@@ -23,7 +23,8 @@ use Rattle.model_card.specs.Event.{Event}
 use Rattle.model_card.specs.Machine.{wants_room, lines_after, answer}
 use Rattle.model_card.specs.Run.{Run, one_more, run}
 use Rattle.model_image.specs.Laws.{CardGoesOn, CardsGoOn}
-use Rattle.model_image.specs.Same.{IsSameLink, IsSameLine}
+use Rattle.model_link.specs.Same.{IsSameLink}
+use Rattle.model_line.specs.Same.{IsSameLine}
 use Rattle.model_image.proofs.GoOnEvents.{IsAlike}
 use Rattle.model_image.proofs.GoOnLines.{AreAlike, fresh-alike, with_links, SameLines, SameSteps, refusal-same, event-same}
 

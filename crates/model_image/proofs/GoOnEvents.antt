@@ -26,7 +26,7 @@ use Rattle.model_link.specs.Steps.{Sent, Course, Step, begun, ◌then◌, nothin
 use Rattle.model_link.specs.Told.{of_call, of_packet, runs, orders_for}
 use Rattle.model_link.specs.Words.{count, command, response}
 use Rattle.model_image.specs.Laws.{LinksGoOn}
-use Rattle.model_image.specs.Same.{IsSameLink}
+use Rattle.model_link.specs.Same.{IsSameLink}
 use Rattle.model_image.proofs.GoOn.{SameNumbers, Alike, Leads2, Tells, then2, nothing2, depending2, pending2, start2, data2, anew2, count2, seq-same}
 use Rattle.model_image.proofs.GoOnTests.{lt-same, rows2}
 use Rattle.model_image.proofs.GoOnRows.{frame2, expired2, malformed2, clearing2}

@@ -32,7 +32,7 @@ use Rattle.model_line.specs.Refusal.{Row, first_that_holds, bad_tei, no_link, wr
 use Rattle.model_line.specs.Machine as machine
 use Rattle.model_line.specs.Machine.{unless_refused, unless_refused_told}
 use Rattle.model_image.proofs.GoOnEvents.{IsAlike, told-same, offers-same, after-same}
-use Rattle.model_image.proofs.Lines.{same-link}
+use Rattle.model_line.proofs.ImageRead.{same-link}
 
 -- Links that are the same, by their numbers.
 pub record AreAlike (xs ys : List Link) : Type 0 where

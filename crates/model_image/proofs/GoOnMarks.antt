@@ -12,7 +12,7 @@ use Rattle.model_card.specs.Card.{Card}
 use Rattle.model_card.specs.Sound.{IsSound}
 use Rattle.model_timed.specs.Changes.{standing, standing_in}
 use Rattle.model_image.specs.Laws.{AreSameCards}
-use Rattle.model_image.specs.Same.{IsSameLine}
+use Rattle.model_line.specs.Same.{IsSameLine}
 use Rattle.model_image.proofs.GoOnCards.{to-alike}
 
 -- of a line

@@ -1,8 +1,4 @@
--- Lemmas: what is read of each part of an image, and of the whole (Whole).
-pub mod Links
-pub mod Teis
-pub mod Lines
-pub mod Configs
+-- Lemmas: what is read of an image's clock (Clocks), and of the whole (Whole).
 pub mod Clocks
 pub mod Whole
 pub mod Again

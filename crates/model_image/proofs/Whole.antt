@@ -14,19 +14,20 @@ use Rattle.model_card.specs.Card.{Card, line_at}
 use Rattle.model_card.proofs.Steps.{has_lines, line_sound as sound_line}
 use Rattle.model_timed.specs.Clock.{Clock}
 use Rattle.lapd_image.specs.Numbers.{number}
-use Rattle.model_image.specs.Configs.{config}
+use Rattle.model_line.specs.ConfigImage.{config}
 use Rattle.lapd_count.specs.Image.{counters}
-use Rattle.model_image.specs.Lines.{line}
+use Rattle.model_line.specs.Image.{line, IsSavedLine}
 use Rattle.model_image.specs.Clocks.{clock}
 use Rattle.model_image.specs.Images.{Saved, marks, changes}
 use Rattle.model_image.specs.Laws.{ImagesAreRead}
-use Rattle.model_image.specs.Same.{IsSameLine, AreSameClocks}
+use Rattle.model_line.specs.Same.{IsSameLine}
+use Rattle.model_image.specs.Same.{AreSameClocks}
 use Rattle.lapd_count.specs.Image.{IsCounted}
-use Rattle.model_image.specs.Sound.{IsSavedLine, AreMarks, IsClockOf, AreMoments, AreChanges, IsSaved}
+use Rattle.model_image.specs.Sound.{AreMarks, IsClockOf, AreMoments, AreChanges, IsSaved}
 use Rattle.lapd_image.proofs.Reading.{heads, tails, Reads, all-read, equal-read, number-read}
 use Rattle.lapd_tei.proofs.ImageRead.{bits-read}
-use Rattle.model_image.proofs.Configs.{HasFitting, config-read}
-use Rattle.model_image.proofs.Lines.{IsWhole, line-read, counters-read}
+use Rattle.model_line.proofs.ConfigRead.{HasFitting, config-read}
+use Rattle.model_line.proofs.ImageRead.{IsWhole, line-read, counters-read}
 use Rattle.model_image.proofs.Clocks.{clock-read}
 
 -- the numbers of a configuration fit

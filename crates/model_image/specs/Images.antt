@@ -8,9 +8,9 @@ use Rattle.model_line.specs.Line.{link_count}
 use Rattle.model_card.specs.Card.{Card, fresh}
 use Rattle.model_timed.specs.Clock.{Clock}
 use Rattle.lapd_image.specs.Numbers.{number}
-use Rattle.model_image.specs.Configs.{config}
+use Rattle.model_line.specs.ConfigImage.{config}
 use Rattle.lapd_count.specs.Image.{counters}
-use Rattle.model_image.specs.Lines.{line}
+use Rattle.model_line.specs.Image.{line}
 use Rattle.model_image.specs.Clocks.{clock}
 
 pub record Saved : Type 0 where

@@ -16,8 +16,10 @@ use Rattle.model_card.specs.Run.{run, AreAtLines}
 use Rattle.model_card.specs.Sound.{IsSound}
 use Rattle.model_timed.specs.Clock.{stopped}
 use Rattle.model_image.specs.Images.{Saved, begun, image_of}
-use Rattle.model_image.specs.Most.{most_octets}
-use Rattle.model_image.specs.Same.{IsSameLink, IsSameLine, IsSame}
+use Rattle.model_line.specs.Most.{most_octets}
+use Rattle.model_link.specs.Same.{IsSameLink}
+use Rattle.model_line.specs.Same.{IsSameLine}
+use Rattle.model_image.specs.Same.{IsSame}
 use Rattle.model_image.specs.Sound.{IsSaved}
 
 -- A card that has just begun is saved, whether it keeps its own timers or not.

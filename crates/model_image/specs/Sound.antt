@@ -7,42 +7,15 @@ use Rattle.lapd_clock.specs.Sound.{IsOneEach}
 use Rattle.lapd_clock.specs.Timer.{AreInRange}
 use Rattle.lapd_clock.specs.Timers.{is_before}
 use Rattle.lapd_count.specs.Image.{IsCounted}
-use Rattle.lapd_tei.specs.Messages.{information_of}
-use Rattle.lapd_terminal.specs.Messages as terminals
-use Rattle.model_bits.specs.StuffingLaws.{AreOctets}
-use Rattle.model_link.specs.Link.{Link, queue_of}
-use Rattle.model_link.specs.Timed.{IsTimed}
 use Rattle.model_line.specs.declared.config.Config.{Config}
-use Rattle.model_line.specs.Line.{Line, is_terminal, link_at, link_count, place_at, tei_at}
-use Rattle.model_line.specs.Sound.{IsSound as IsSoundLine}
+use Rattle.model_line.specs.Image.{IsSavedLine}
+use Rattle.model_line.specs.Line.{Line, link_count, place_at, tei_at}
 use Rattle.model_card.specs.Card.{Card}
 use Rattle.model_card.specs.Reached.{AreTimed}
 use Rattle.model_card.specs.Sound.{IsSound}
 use Rattle.model_timed.specs.Clock.{Clock}
 use Rattle.model_timed.specs.RunTheSame.{RunAs, as_they_are}
-use Rattle.model_image.specs.Links.{counted_of}
 use Rattle.model_image.specs.Images.{Saved}
-
--- Of a link: its counts have 16 bits, and contents are octets.
-pub record IsSavedLink (l : Link) : Type 0 where
-  pub counts : All (λ n. n ≤ 65535) (counted_of l.counts)
-  pub octets : All AreOctets (queue_of l)
-
--- Of a line: Ri has 16 bits, and so have those in the messages that wait; only a terminal uses its reference number; contents
--- are octets.
-pub record IsSavedLine (c : Config) (l : Line) : Type 0 where
-  pub remembered : All (λ r. r.ri < 65536) l.management.remembered
-  pub messages : All (λ message. AreOctets (information_of message)) l.management.waiting
-  pub own : All (λ message. AreOctets (terminals.information_of message)) l.own.waiting
-  pub unused : is_terminal c ≡ false → l.own.number ≡ 0
-  pub links : All IsSavedLink l.links
-  pub units : All (λ u. AreOctets u.contents) l.units
-
--- A line that may be saved, whatever the others: it is sound, and its timers are those of its states.
-pub record IsWhole (c : Config) (l : Line) : Type 0 where
-  pub sound : IsSoundLine c l
-  pub timed : (number : ℕ) → IsTimed (link_at number l)
-  pub saved : IsSavedLine c l
 
 -- Links wait only where there is a TEI.
 pub record AreMarks (c : Config) (l : Line) (waits : List Bool) : Type 0 where

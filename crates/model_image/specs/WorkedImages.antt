@@ -10,7 +10,7 @@ use Rattle.model_line.specs.Line.{Line, fresh_line, with_link}
 use Rattle.model_line.specs.Usual.{usual, least}
 use Rattle.lapd_image.specs.Numbers.{number}
 use Rattle.model_image.specs.Images.{Saved, begun, image_of}
-use Rattle.model_image.specs.Most.{most_octets}
+use Rattle.model_line.specs.Most.{most_octets}
 
 -- A fresh card of frames, of one line with room for one TEI.
 abbrev least_card : Saved

@@ -13,9 +13,9 @@ use Rattle.model_link.specs.declared.timers.LinkTimer.TheVariants.{T200}
 use Rattle.model_link.specs.Link.{Link, fresh}
 use Rattle.model_line.specs.Line.{Own}
 use Rattle.lapd_image.specs.Numbers.{number}
-use Rattle.model_image.specs.Links.{link}
+use Rattle.model_link.specs.Image.{link}
 use Rattle.lapd_tei.specs.Image.{management}
-use Rattle.model_image.specs.Teis.{own}
+use Rattle.model_line.specs.Image.{own}
 
 -- The link of a TEI that has just come to the line: state 4, and all else 0.
 fresh_link : link fresh ≡ 4 ∷ replicate 18 0

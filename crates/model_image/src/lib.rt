@@ -3,8 +3,9 @@
 //!
 //! An image has what can't be worked out: the configuration, the lines, what was counted of them, and which links wait for
 //! room. A timed card's also has the moments of its timers, and of the last changes of states. It is the same on every processor.
-//! `specs/` has it, part by part (`Configs` to `Images`; numbers and lists are those of `lapd_image`), when two cards are the same
-//! (`Same`), which cards are saved (`Sound`), and what is proved of images (`Laws`) and of cards that are restored (`Restored`).
+//! `specs/` has the whole (`Images`) and its clock (`Clocks`), when two cards are the same (`Same`), which cards are saved
+//! (`Sound`), and what is proved of images (`Laws`) and of cards that are restored (`Restored`). The octets of a link stand in
+//! `model_link`, those of a line and of a configuration in `model_line` (`Image`, `ConfigImage`).
 //!
 //! What stands half received or half sent in a port of octets is not in it.
 //!

@@ -39,3 +39,5 @@ pub mod LinkMoves
 pub mod Following
 pub mod TimersFollow
 pub mod Placed
+pub mod ImageRead
+pub mod ConfigRead

@@ -1,5 +1,6 @@
 -- Links by their numbers, and sums over them.
-use Rattle.model_line.proofs.Vocabulary.{◌≡◌, ◌≢◌, ℕ, zero, suc, ◌+◌, ◌*◌, ◌≤◌, ◌<◌, ◌⊎◌, refl, ap, sym, ◌∙◌, arith, ⊎_elim, sum_by, range_with_len, sum_by-cons, cases_eq, Service, Call, Packet, link_number, service_at, place_at}
+use Rattle.std.proofs.lemmas.List.FromFn.{get_or-range_with_len, length-range_with_len}
+use Rattle.model_line.proofs.Vocabulary.{◌≡◌, ◌≢◌, ℕ, zero, suc, ◌+◌, ◌*◌, ◌≤◌, ◌<◌, ◌⊎◌, refl, ap, sym, ◌∙◌, subst, arith, get_or, length, ⊎_elim, sum_by, range_with_len, sum_by-cons, cases_eq, Service, Call, Packet, link_number, service_at, place_at}
 
 -- a number has its service and its place
 pub place_at-number : (place : ℕ) (service : Service) → place_at (link_number place service) ≡ place
@@ -20,6 +21,20 @@ other_place number place service h e = h (ap place_at e ∙ place_at-number plac
 
 pub at_place : (number place : ℕ) → place_at number ≡ place → (number ≡ link_number place Call) ⊎ (number ≡ link_number place Packet)
 at_place number place e = grind (arith, cases_eq)
+
+-- so many numbers, from 0 on
+pub at : (count number : ℕ) → number < count → get_or (range_with_len 0 count) number 0 ≡ number
+at count number h =
+    let none_before : 0 + number ≡ number = omega arith in
+    get_or-range_with_len 0 count number 0 h ∙ none_before
+
+pub below : (count k : ℕ) → k < length (range_with_len 0 count) → get_or (range_with_len 0 count) k 0 < count
+below count k h =
+    let less : k < count = subst (λ (n : ℕ). k < n) (length-range_with_len 0 count) h in
+    subst (λ (n : ℕ). n < count) (sym (at count k less)) less
+
+pub within-range : (count number : ℕ) → number < count → number < length (range_with_len 0 count)
+within-range count number h = subst (λ (n : ℕ). number < n) (sym (length-range_with_len 0 count)) h
 
 -- a sum of which one term changes
 sum_elsewhere : (f g : ℕ → ℕ) (a n i : ℕ) → i < a → ((j : ℕ) → j ≢ i → g j ≡ f j) → sum_by g (range_with_len a n) ≡ sum_by f (range_with_len a n)

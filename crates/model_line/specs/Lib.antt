@@ -3,7 +3,8 @@
 -- Read in this order: Config, Usual, Event, Request; Line; Effect, whom an event concerns and what comes of it; Sides; Heard,
 -- Expiry, Refusal, Requested, Taken; Machine. Came is what a controller's frames and faults are heard as, and Room what a line
 -- answers about itself. Stored, Counts, Deliveries and Sound are the words of the laws, Laws their statements. Counted is what
--- its counters count, and Runs which timers run at a caller's.
+-- its counters count, and Runs which timers run at a caller's. Of an image of a card, Image has the octets of a line, ConfigImage
+-- those of the configuration, and Most how many there are at most. Same has when two lines are the same.
 pub mod Config
 pub mod Usual
 pub mod Request
@@ -26,3 +27,7 @@ pub mod Laws
 pub mod Came
 pub mod Counted
 pub mod Runs
+pub mod Image
+pub mod ConfigImage
+pub mod Same
+pub mod Most

@@ -33,3 +33,4 @@ pub mod InStep
 pub mod Obeying
 pub mod Timing
 pub mod TimedRows
+pub mod ImageRead

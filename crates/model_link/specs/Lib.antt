@@ -5,7 +5,7 @@
 -- AwaitingEstablishment, AwaitingRelease, MultipleFrame, Established, TimerRecovery; Requests and Offers; Machine; and
 -- Room, which tells what a request for data will be refused for. A link keeps all contents since its numbers were
 -- zero, and plain numbers that never wrap. Counts has what is counted of a link. Sound, Notes, Rises, Deliveries, Numbered, Timed and TwoEnds are the
--- words of the laws.
+-- words of the laws. Image has the octets of a link in an image of its card, and Same when two links are the same.
 pub mod Counts
 pub mod Link
 pub mod Events
@@ -29,3 +29,5 @@ pub mod Numbered
 pub mod Notes
 pub mod TwoEnds
 pub mod Timed
+pub mod Image
+pub mod Same

@@ -20,9 +20,8 @@ use Rattle.lapd_tei.specs.declared.check.Period.TheVariants.{First}
 use Rattle.lapd_tei.specs.declared.messages.Message.TheVariants.{IdentityAssigned, IdentityDenied, IdentityCheckRequest, IdentityRemove}
 use Rattle.lapd_terminal.specs.declared.messages.Message.TheVariants.{IdentityCheckResponse, IdentityVerify}
 use Rattle.lapd_terminal.specs.declared.procedure.Procedure.TheVariants.{Verifying}
-use Rattle.model_image.specs.Lines.{unit}
-use Rattle.model_image.specs.Most.{most_octets}
-use Rattle.model_image.specs.Teis.{own}
+use Rattle.model_line.specs.Image.{unit, own}
+use Rattle.model_line.specs.Most.{most_octets}
 use Rattle.model_line.specs.Line.{Own}
 use Rattle.model_line.specs.Usual.{usual}
 use Rattle.model_line.specs.declared.config.Config.{Config}

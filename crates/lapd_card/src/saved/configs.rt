@@ -6,9 +6,9 @@ ghost use Rattle.lapd_image.specs.Numbers.{number};
 ghost use Rattle.lapd_image.specs.Puts.{Puts};
 ghost use Rattle.lapd_image.specs.Reads.{IsReadAs, HasNone};
 ghost use Rattle.model_bits.specs.Bits.{bit_value, number_of};
-ghost use Rattle.model_image.specs.Configs as image;
-ghost use Rattle.model_image.specs.Configs.{config_flags, is_annex_b};
-ghost use Rattle.model_image.specs.Most.{most_octets, most_clock, most_line, most_teis};
+ghost use Rattle.model_line.specs.ConfigImage as image;
+ghost use Rattle.model_line.specs.ConfigImage.{config_flags, is_annex_b};
+ghost use Rattle.model_line.specs.Most.{most_octets, most_clock, most_line, most_teis};
 ghost use Rattle.model_line.specs.Sides.{is_network};
 ghost use Rattle.model_line.specs.Sound.{IsInRange};
 

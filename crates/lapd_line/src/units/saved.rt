@@ -1,13 +1,13 @@
 //! Unit data that waits in an image of its card.
 
 ghost use Rattle.std.specs.Prelude.{◌≡◌, ◌+◌, ◌*◌, ◌/◌, ◌<◌, ◌≤◌, All, List, [], length, slice_get, OnOk, OnErr, Some};
-ghost use Rattle.lapd_clock.specs.Timer.{rank_of_service};
 ghost use Rattle.lapd_image.specs.Numbers.{contents, list_of};
 ghost use Rattle.lapd_image.specs.Puts.{Puts};
 ghost use Rattle.lapd_line.specs.ImageParts.{HasNoUnit, HasNoUnits, RestoresUnit, RestoresUnits, UnitComes, UnitsStand};
 ghost use Rattle.lapd_line.specs.{Owned, SameLimits, used_slots};
 ghost use Rattle.model_bits.specs.StuffingLaws.{AreOctets};
-ghost use Rattle.model_image.specs.Lines as image;
+ghost use Rattle.model_line.specs.Image as image;
+ghost use Rattle.model_line.specs.Image.{service_bit};
 ghost use Rattle.model_line.specs.Line.{UnitData};
 
 use super::{QueuedUnit, Units};
@@ -18,7 +18,7 @@ use lapd_store::Shelf;
 /// For which terminals unit data is, in one octet.
 fn receivers(service: Service, tei: u8) -> u8
     requires { tei ≤ 127 }
-    ensures { result ≡ 2 * tei + rank_of_service service }
+    ensures { result ≡ 2 * tei + service_bit service }
 {
     match service {
         Service::Call => 2 * tei,
@@ -28,7 +28,7 @@ fn receivers(service: Service, tei: u8) -> u8
 
 /// The service of terminals that are named so.
 fn service_of(receivers: u8) -> Service
-    ensures { 2 * (receivers / 2) + rank_of_service result ≡ receivers }
+    ensures { 2 * (receivers / 2) + service_bit result ≡ receivers }
 {
     if receivers % 2 == 1 {
         Service::Packet

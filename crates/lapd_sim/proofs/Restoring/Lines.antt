@@ -24,7 +24,7 @@ use Rattle.model_card.specs.Machine.{answer}
 use Rattle.model_card.specs.Reached.{IsReached}
 use Rattle.model_card.specs.Sound.{IsSound as IsSoundCard}
 use Rattle.model_image.specs.Laws.{AreSameCards}
-use Rattle.model_image.specs.Same.{IsSameLine}
+use Rattle.model_line.specs.Same.{IsSameLine}
 use Rattle.model_image.proofs.GoOnCards.{to-alike}
 use Rattle.model_image.proofs.GoOnLines.{SameLines}
 use Rattle.model_image.proofs.GoOnOctets.{frames-once}

@@ -8,7 +8,7 @@ use Rattle.lapd_timed.specs.Image.{AreAllMarks, StandsFor}
 use Rattle.model_card.proofs.Reaching.{reached-sound}
 use Rattle.model_image.proofs.FitsWhole.{images_fit}
 use Rattle.model_image.specs.Images.{Saved, image_of}
-use Rattle.model_image.specs.Most.{most_octets}
+use Rattle.model_line.specs.Most.{most_octets}
 use Rattle.model_image.specs.Sound.{AreMarks, IsSaved}
 use Rattle.model_line.proofs.Ranges.{ranges_of}
 use Rattle.model_line.specs.Line.{Line, link_count}

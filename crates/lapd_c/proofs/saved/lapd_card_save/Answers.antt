@@ -4,7 +4,7 @@ use Rattle.std.specs.Prelude.{is_some}
 use Rattle.std.proofs.lemmas.Option.{none-some}
 use Rattle.lapd_card.specs.Kinds.{card_in}
 use Rattle.model_image.specs.Images.{image_of}
-use Rattle.model_image.specs.Most.{most_octets}
+use Rattle.model_line.specs.Most.{most_octets}
 use Rattle.lapd_c.specs.Kept.{is_timed, timers_held}
 use Rattle.lapd_c.specs.Saves.{HandleHolds, IsHeldAs}
 use Rattle.lapd_c.proofs.Saving.{config_there, held_fits, told_enough, written}

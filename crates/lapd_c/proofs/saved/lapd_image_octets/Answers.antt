@@ -1,6 +1,6 @@
 -- Hand-written answers for `lapd_image_octets`.
 use Rattle.std.proofs.Common.{true, arith, ap, sym, ◌∙◌}
-use Rattle.model_image.specs.Most.{most_octets}
+use Rattle.model_line.specs.Most.{most_octets}
 use Rattle.model_line.specs.declared.config.Config.{Config}
 use Rattle.lapd_c.specs.Config.{config_fault, config_in}
 use Rattle.lapd_c.proofs.MostOctets.{few-octets, most_of, read-none}

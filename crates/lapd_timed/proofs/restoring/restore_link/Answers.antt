@@ -5,7 +5,7 @@ use Rattle.lapd_moments.specs.Image.{IsStartedBy}
 use Rattle.lapd_moments.proofs.OfCard.{length_set}
 use Rattle.lapd_moments.proofs.Restoring.{no-link, one-link}
 use Rattle.model_card.specs.Card.{line_at}
-use Rattle.model_image.specs.Clocks.{timer_numbered}
+use Rattle.model_line.specs.Image.{timer_numbered}
 use Rattle.lapd_timed.proofs.Refilled.{none-one, passes-one}
 use Rattle.lapd_timed.proofs.restoring.restore_link.Goals as goal
 

@@ -5,7 +5,7 @@ use Rattle.lapd_card.specs.Image.{IsSavedConfig, IsSavedOf}
 use Rattle.lapd_card.specs.FrameStands.{FrameStands}
 use Rattle.lapd_card.specs.Kinds.{shelf_of}
 use Rattle.lapd_image.proofs.Puts.{puts-same, puts-then}
-use Rattle.model_image.specs.Configs.{config}
+use Rattle.model_line.specs.ConfigImage.{config}
 use Rattle.model_line.proofs.Ranges.{ranges_of}
 use Rattle.lapd_timed.specs.Image.{head_of}
 use Rattle.lapd_timed.proofs.Spelled.{is-octets, is-timed, marks-spelled}

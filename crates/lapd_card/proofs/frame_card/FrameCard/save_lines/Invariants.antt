@@ -4,7 +4,7 @@ use Rattle.lapd_card.specs.FrameStands.{FrameStands}
 use Rattle.lapd_card.specs.Image.{image_of_lines}
 use Rattle.lapd_image.specs.Puts.{Puts}
 use Rattle.model_card.specs.Card as machine
-use Rattle.model_image.specs.Sound.{IsWhole}
+use Rattle.model_line.specs.Image.{IsWhole}
 use Rattle.lapd_card.proofs.frame_card.FrameCard.save_lines.Given as goal
 
 -- the lines so far are put, and may be saved

@@ -1,6 +1,6 @@
 -- Hand-written answers for `FrameCard::timer`.
 use Rattle.std.specs.Prelude.{◌≡◌, ◌<◌, option_to_list}
-use Rattle.model_image.specs.Clocks.{timer_numbered}
+use Rattle.model_line.specs.Image.{timer_numbered}
 use Rattle.model_line.specs.Line.{link_count}
 use Rattle.lapd_card.proofs.OneLine.{line-there, one_holds}
 use Rattle.lapd_card.proofs.frame_card.FrameCard.timer.Goals as goal

@@ -2,7 +2,7 @@
 use Rattle.lapd_card.proofs.Vocabulary.{sym, subst}
 use Rattle.lapd_image.proofs.Reading.{on_err}
 use Rattle.lapd_image.specs.Reads.{HasNone}
-use Rattle.model_image.specs.Configs.{seed}
+use Rattle.model_line.specs.ConfigImage.{seed}
 use Rattle.lapd_card.specs.Image.{IsSeed}
 use Rattle.lapd_card.proofs.Configs.{none_of_seed}
 use Rattle.lapd_card.proofs.saved.configs.restore_seed.Goals as goal

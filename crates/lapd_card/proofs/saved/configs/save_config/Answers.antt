@@ -1,7 +1,7 @@
 -- Hand-written answers for `save_config`.
 use Rattle.lapd_card.proofs.Vocabulary.{arith, ranges_of, sym, ap, ◌∙◌}
 use Rattle.lapd_image.proofs.Puts.{puts-none, puts-same, puts-then}
-use Rattle.model_image.specs.Configs.{seed}
+use Rattle.model_line.specs.ConfigImage.{seed}
 use Rattle.lapd_image.specs.Numbers.{number}
 use Rattle.lapd_card.proofs.Configs.{config_put}
 use Rattle.lapd_card.proofs.saved.configs.save_config.Goals as goal

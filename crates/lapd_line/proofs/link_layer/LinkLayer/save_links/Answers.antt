@@ -1,7 +1,7 @@
 -- Hand-written answers for `LinkLayer::save_links`.
 use Rattle.lapd_line.proofs.Vocabulary.{◌≡◌, ap, sym, arith, range_with_len, link_count}
 use Rattle.std.specs.Prelude.{flat_map}
-use Rattle.model_image.specs.Lines.{link_numbered}
+use Rattle.model_line.specs.Image.{link_numbered}
 use Rattle.lapd_image.proofs.Puts.{puts-none, puts-same, puts-then}
 use Rattle.lapd_line.proofs.SavedSteps.{images_next}
 use Rattle.lapd_line.proofs.SavedWhole.{all_saved, next_saved}

@@ -2,8 +2,8 @@
 use Rattle.lapd_line.proofs.Vocabulary.{ℕ, ◌<◌, List, Owned, Line, LayerStands, link_at, range_with_len}
 use Rattle.std.specs.Prelude.{flat_map}
 use Rattle.lapd_image.specs.Puts.{Puts}
-use Rattle.model_image.specs.Lines.{link_numbered}
-use Rattle.model_image.specs.Sound.{IsSavedLink}
+use Rattle.model_line.specs.Image.{link_numbered}
+use Rattle.model_link.specs.Image.{IsSavedLink}
 use Rattle.model_link.specs.Timed.{IsTimed}
 use Rattle.lapd_line.proofs.link_layer.LinkLayer.save_links.Given as goal
 

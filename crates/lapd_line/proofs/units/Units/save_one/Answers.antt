@@ -3,7 +3,7 @@ use Rattle.lapd_line.proofs.Vocabulary.{◌≤◌, slice_get_within, sym, subst,
 use Rattle.std.proofs.lemmas.Option.{get_or_from_slice_get}
 use Rattle.lapd_image.specs.Puts.{Puts}
 use Rattle.model_bits.specs.StuffingLaws.{AreOctets}
-use Rattle.model_image.specs.Lines.{unit as image}
+use Rattle.model_line.specs.Image.{unit as image}
 use Rattle.lapd_line.proofs.SavedSteps.{unit_at, unit_found}
 use Rattle.lapd_line.proofs.units.Units.save_one.Goals as goal
 

@@ -5,7 +5,7 @@ use Rattle.lapd_link.proofs.Restoring.{after-head, after-queue, becomes-read, co
 use Rattle.lapd_link.proofs.Vocabulary.{Entity, [], ap, queue_of, sym, used_slots, ◌++◌, ◌∙◌, refl}
 use Rattle.lapd_link_steps.specs.Image.{restored}
 use Rattle.lapd_link.proofs.link.Link.restore.Goals as goal
-use Rattle.model_image.specs.Links.{control_frame}
+use Rattle.model_link.specs.Image.{control_frame}
 
 pub returns-in_err-restore_queue-clause-none : goal.returns-in_err-restore_queue-clause-none
 returns-in_err-restore_queue-clause-none g c =

@@ -4,7 +4,7 @@ use Rattle.std.specs.Prelude.{flat_map}
 use Rattle.lapd_image.specs.Reads.{IsReadAs}
 use Rattle.lapd_link_steps.specs.Image.{AreWaiting}
 use Rattle.lapd_link_steps.proofs.entity.Entity.restore_waiting.Given as goal
-use Rattle.model_image.specs.Links.{control_frame}
+use Rattle.model_link.specs.Image.{control_frame}
 
 abbrev pub invariant-loop : goal.invariant-loop
 invariant-loop l = record {

@@ -4,7 +4,7 @@ use Rattle.std.specs.Prelude.{flat_map}
 use Rattle.lapd_image.proofs.Puts.{puts-next, puts-none, puts-same}
 use Rattle.lapd_link_steps.proofs.Image.{some_frame}
 use Rattle.lapd_link_steps.proofs.entity.Entity.save_frames.Goals as goal
-use Rattle.model_image.specs.Links.{control_frame}
+use Rattle.model_link.specs.Image.{control_frame}
 
 pub save_frame-end-requires-clause-within : goal.save_frame-end-requires-clause-within
 save_frame-end-requires-clause-within c = c.loop-place.invariant.within

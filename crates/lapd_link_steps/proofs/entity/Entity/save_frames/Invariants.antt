@@ -2,7 +2,7 @@
 use Rattle.std.proofs.Common.{take}
 use Rattle.std.specs.Prelude.{flat_map}
 use Rattle.lapd_image.specs.Puts.{Puts}
-use Rattle.model_image.specs.Links.{control_frame}
+use Rattle.model_link.specs.Image.{control_frame}
 use Rattle.lapd_link_steps.proofs.entity.Entity.save_frames.Given as goal
 
 abbrev pub invariant-loop-place : goal.invariant-loop-place

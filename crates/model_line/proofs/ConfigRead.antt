@@ -1,4 +1,4 @@
--- A configuration is read.
+-- A configuration is read from an image.
 use Rattle.std.proofs.Common.{◌≡◌, ℕ, ◌<◌, Bool, true, false, not, List, ◌++◌, Option, Some, None, is_some, refl, sym, ap, ◌∙◌}
 use Rattle.std.specs.Prelude.{IfSome}
 use Rattle.lapd_frame.specs.declared.addresses.Side.{Side}
@@ -8,7 +8,7 @@ use Rattle.lapd_frame.specs.declared.readings.Reading.TheVariants.{Profile, Anne
 use Rattle.model_line.specs.declared.config.Config.{Config}
 use Rattle.model_line.specs.Sides.{is_network}
 use Rattle.lapd_image.specs.Numbers.{number}
-use Rattle.model_image.specs.Configs.{is_annex_b, config_flags, seed, config}
+use Rattle.model_line.specs.ConfigImage.{is_annex_b, config_flags, seed, config}
 use Rattle.lapd_image.proofs.Reading.{heads, tails, split, Reads, number-read}
 use Rattle.lapd_tei.proofs.ImageRead.{bits-read}
 

@@ -1,4 +1,4 @@
--- A link is read.
+-- A link is read from an image.
 use Rattle.std.proofs.Common.{arith, ◌≡◌, ℕ, ◌<◌, ◌≤◌, ◌==◌, Bool, true, false, List, ◌++◌, length, slice_index, Option, Some, None, refl, sym, ap, ◌∙◌, if◌then◌else◌}
 use Rattle.std.specs.Prelude.{All}
 use Rattle.std.proofs.lemmas.List.{append_cancel_left}
@@ -8,7 +8,8 @@ use Rattle.lapd_frame.specs.declared.controls.Control.{Control}
 use Rattle.lapd_frame.specs.Grammar.{row}
 use Rattle.lapd_frame.specs.Reading.{control_of}
 use Rattle.lapd_frame.proofs.ControlField.{control-again}
-use Rattle.model_bits.specs.Bits.{bit_value}
+use Rattle.model_bits.specs.Bits.{bit_value, low_bits, number_of}
+use Rattle.model_bits.proofs.BitLemmas.{low_bits-number_of}
 use Rattle.model_link.specs.declared.counts.LinkCounts.{LinkCounts}
 use Rattle.model_link.specs.declared.frames.ControlFrame.{ControlFrame}
 use Rattle.model_link.specs.declared.states.State.{State}
@@ -18,10 +19,9 @@ use Rattle.model_link.specs.declared.timers.LinkTimer.TheVariants.{T200, T203}
 use Rattle.model_link.specs.Link.{Link, state_number, queue_of}
 use Rattle.model_link.specs.Told.{runs}
 use Rattle.lapd_image.specs.Numbers.{number, list_of, contents}
-use Rattle.model_image.specs.Links.{control_frame, link_flags, counted_of, counts, link}
-use Rattle.model_image.specs.Same.{IsSameLink}
+use Rattle.model_link.specs.Image.{control_frame, link_flags, counted_of, counts, link}
+use Rattle.model_link.specs.Same.{IsSameLink}
 use Rattle.lapd_image.proofs.Reading.{heads, tails, split, Reads, number-read, equal-read, list-read, contents-read, all-unit}
-use Rattle.lapd_tei.proofs.ImageRead.{bits-read}
 
 -- a bit
 bit-read : (a b : Bool) → bit_value a ≡ bit_value b → a ≡ b
@@ -100,8 +100,9 @@ record HaveSameFlags (l m : Link) : Type 0 where
   asked : l.asked ≡ m.asked
   running : l.running ≡ m.running
 
-flags-read : (l m : Link) → link_flags l ≡ link_flags m → HaveSameFlags l m
-flags-read l m e =
+flags-read : (l m : Link) → number_of (link_flags l) ≡ number_of (link_flags m) → HaveSameFlags l m
+flags-read l m same =
+    let e : link_flags l ≡ link_flags m = sym (low_bits-number_of (link_flags l)) ∙ ap (λ (n : ℕ). low_bits 7 n) same ∙ low_bits-number_of (link_flags m) in
     let e1 = tails e in
     let e2 = tails e1 in
     let e3 = tails e2 in
@@ -130,7 +131,7 @@ link-read l m r s few also e =
     let counted : (l.counts ≡ m.counts) × ((list_of contents (queue_of l) ++ list_of control_frame l.waiting) ++ r ≡ (list_of contents (queue_of m) ++ list_of control_frame m.waiting) ++ s) =
     counts-read l.counts m.counts _ _ few.counts also.counts (split (counts l.counts) (list_of contents (queue_of l) ++ list_of control_frame l.waiting) (counts m.counts) (list_of contents (queue_of m) ++ list_of control_frame m.waiting) r s (tails e6)) in
     let state : l.state ≡ m.state = sym (state-back l.state) ∙ ap state_from (heads e) ∙ state-back m.state in
-    let flags : HaveSameFlags l m = flags-read l m (bits-read (link_flags l) (link_flags m) refl (heads e1)) in
+    let flags : HaveSameFlags l m = flags-read l m (heads e1) in
     let queue : (queue_of l ≡ queue_of m) × (list_of control_frame l.waiting ++ r ≡ list_of control_frame m.waiting ++ s) =
     list-read (λ (c : List ℕ). length c < 65536) contents contents-read (queue_of l) (queue_of m) _ _ few.queue also.queue (split (list_of contents (queue_of l)) (list_of control_frame l.waiting) (list_of contents (queue_of m)) (list_of control_frame m.waiting) r s counted.1) in
     let ring : (l.waiting ≡ m.waiting) × (r ≡ s) =

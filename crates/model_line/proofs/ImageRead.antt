@@ -1,11 +1,11 @@
--- A line is read, and its counters.
+-- A line is read from an image, and its counters.
 use Rattle.std.proofs.Common.{arith, ◌≡◌, ℕ, zero, suc, ◌+◌, ◌*◌, ◌^◌, ◌<◌, ◌≤◌, Bool, true, false, List, [], ◌∷◌, ◌++◌, length, get_or, replicate, Option, Some, None, refl, sym, ap, ◌∙◌, subst}
 use Rattle.std.specs.List.{range_with_len}
 use Rattle.std.specs.Prelude.{All, IfSome, map, flat_map}
 use Rattle.std.proofs.lemmas.List.{length-map}
 use Rattle.std.proofs.lemmas.List.Elements.{All-get_or}
-use Rattle.std.proofs.lemmas.List.FromFn.{get_or-range_with_len, length-range_with_len}
-use Rattle.lapd_clock.specs.Timer.{rank_of_service, Service, Call, Packet}
+use Rattle.lapd_frame.specs.declared.services.Service.{Service}
+use Rattle.lapd_frame.specs.declared.services.Service.TheVariants.{Call, Packet}
 use Rattle.lapd_count.specs.declared.counters.Counters.{Counters}
 use Rattle.lapd_tei.specs.Machine.{Management}
 use Rattle.lapd_terminal.specs.declared.procedure.Procedure.{Procedure}
@@ -13,23 +13,23 @@ use Rattle.lapd_terminal.specs.declared.procedure.Procedure.TheVariants.{Asking,
 use Rattle.lapd_terminal.specs.Sound as terminals
 use Rattle.model_link.specs.Link.{Link, fresh}
 use Rattle.model_line.specs.declared.config.Config.{Config}
-use Rattle.model_line.specs.Line.{Line, UnitData, is_terminal, link_count, link_at, place_at, tei_at}
+use Rattle.model_line.specs.Line.{Line, Own, UnitData, is_terminal, link_count, link_at, place_at, tei_at}
 use Rattle.model_line.specs.Sound.{IsSound, IsSoundAt, IsOfSide, IsUnitData}
 use Rattle.lapd_image.specs.Numbers.{number, list_of}
 use Rattle.lapd_tei.specs.Image.{HasRi, place}
-use Rattle.lapd_count.specs.Image.{counters}
-use Rattle.model_image.specs.Lines.{unit, teis, link_if, link_numbered, line}
-use Rattle.model_image.specs.Same.{IsSameLink, IsSameLine}
-use Rattle.lapd_count.specs.Image.{IsCounted}
-use Rattle.model_image.specs.Sound.{IsSavedLink, IsSavedLine}
+use Rattle.model_line.specs.Image.{service_bit, unit, own, teis, link_if, link_numbered, line, IsSavedLine}
+use Rattle.model_line.specs.Same.{IsSameLine}
+use Rattle.lapd_count.specs.Image.{counters, IsCounted}
+use Rattle.model_link.specs.Image.{IsSavedLink}
+use Rattle.model_link.specs.Same.{IsSameLink}
 use Rattle.lapd_image.proofs.Reading.{heads, tails, split, Reads, number-read, front-read, contents-read, equal-read, list-read}
-use Rattle.model_image.proofs.Links.{small, link-read}
+use Rattle.model_link.proofs.ImageRead.{small, link-read}
 use Rattle.lapd_tei.proofs.ImageRead.{places-read, management-read}
-use Rattle.lapd_terminal.proofs.ImageRead.{HasNumber}
-use Rattle.model_image.proofs.Teis.{AreOwnNumbers, own-read}
+use Rattle.lapd_terminal.proofs.ImageRead.{HasNumber, AreSameBeside, beside-read}
+use Rattle.model_line.proofs.Numbers.{at, below, within-range}
 
 -- a service by its bit
-pub service-read : (s t : Service) (n m : ℕ) → 2 * n + rank_of_service s ≡ 2 * m + rank_of_service t → (n ≡ m) × (s ≡ t)
+pub service-read : (s t : Service) (n m : ℕ) → 2 * n + service_bit s ≡ 2 * m + service_bit t → (n ≡ m) × (s ≡ t)
 service-read Call Call n m e = (omega (arith, e), refl)
 service-read Call Packet n m e = absurd (omega (arith, e))
 service-read Packet Call n m e = absurd (omega (arith, e))
@@ -50,6 +50,17 @@ pub procedure-fits : (places : List (Option ℕ)) (o : Option Procedure) → IfS
 procedure-fits places None sound = tt
 procedure-fits places (Some (Asking ri attempts)) sound = sound.0
 procedure-fits places (Some (Verifying tei attempts)) sound = tt
+
+-- what a terminal has of TEI management
+pub record AreOwnNumbers (o : Own) : Type 0 where
+  pub number : o.number < 65536
+  pub procedure : IfSome o.procedure HasNumber
+
+pub own-read : Reads AreOwnNumbers (λ (o p : Own). o ≡ p) own
+own-read o p r s few also e =
+    let read : AreSameBeside o.number p.number o.procedure p.procedure o.waiting p.waiting r s =
+    beside-read o.number p.number o.procedure p.procedure o.waiting p.waiting r s few.number also.number few.procedure also.procedure e in
+    ((λ i. record { number = read.number i; procedure = read.procedure i; waiting = read.waiting i }), read.others)
 
 -- What a side has of TEI management.
 pub record AreSameTeis (terminal : Bool) (l m : Line) (r s : List ℕ) : Type 0 where
@@ -106,20 +117,6 @@ one-more : (n : ℕ) (ns : List ℕ) (l m : Line) → IsSameLink (link_at n l) (
     → (k : ℕ) → k < length (n ∷ ns) → IsSameLink (link_at (get_or (n ∷ ns) k 0) l) (link_at (get_or (n ∷ ns) k 0) m)
 one-more n ns l m one rest zero h = one
 one-more n ns l m one rest (suc k) h = rest k (omega (arith, h))
-
--- the numbers from 0 on
-pub at : (count number : ℕ) → number < count → get_or (range_with_len 0 count) number 0 ≡ number
-at count number h =
-    let none_before : 0 + number ≡ number = omega arith in
-    get_or-range_with_len 0 count number 0 h ∙ none_before
-
-pub below : (count k : ℕ) → k < length (range_with_len 0 count) → get_or (range_with_len 0 count) k 0 < count
-below count k h =
-    let less : k < count = subst (λ (n : ℕ). k < n) (length-range_with_len 0 count) h in
-    subst (λ (n : ℕ). n < count) (sym (at count k less)) less
-
-pub within-range : (count number : ℕ) → number < count → number < length (range_with_len 0 count)
-within-range count number h = subst (λ (n : ℕ). number < n) (sym (length-range_with_len 0 count)) h
 
 -- a link of a line that is saved
 pub at-number : (c : Config) (l : Line) → length l.links ≡ link_count c → IsSavedLine c l → (n : ℕ) → n < link_count c → IsSavedLink (link_at n l)

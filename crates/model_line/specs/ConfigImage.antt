@@ -1,11 +1,11 @@
--- A configuration in an image.
+-- A configuration in an image of its card.
 use Rattle.std.specs.Prelude.{ℕ, Bool, true, false, List, [], ◌∷◌, ◌++◌, not, Option, None, Some, is_some}
 use Rattle.lapd_frame.specs.declared.readings.Reading.{Reading}
 use Rattle.lapd_frame.specs.declared.readings.Reading.TheVariants.{Profile, AnnexB}
+use Rattle.lapd_image.specs.Numbers.{number}
 use Rattle.model_bits.specs.Bits.{number_of}
 use Rattle.model_line.specs.declared.config.Config.{Config}
 use Rattle.model_line.specs.Sides.{is_network}
-use Rattle.lapd_image.specs.Numbers.{number}
 
 abbrev pub is_annex_b : Reading → Bool
 is_annex_b Profile = false

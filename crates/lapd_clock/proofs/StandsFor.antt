@@ -8,7 +8,7 @@ use Rattle.lapd_clock.proofs.TimerOrder.{before_order, same_expiry}
 same_number : (k : ℕ) → (k == k) ≡ true
 same_number k = grind (arith, nat_tests)
 
-swap : (x y : Expiry) (zs : List Expiry) → put_in_order is_before x (put_in_order is_before y zs) ≡ put_in_order is_before y (put_in_order is_before x zs)
+pub swap : (x y : Expiry) (zs : List Expiry) → put_in_order is_before x (put_in_order is_before y zs) ≡ put_in_order is_before y (put_in_order is_before x zs)
 swap = put_in_order-swap is_before before_order same_expiry
 
 -- on one line the order is that of the line

@@ -27,4 +27,4 @@ pub use Rattle.lapd_clock.specs.Sound.{IsLeastDue, IsOneEach, IsSound}
 pub use Rattle.lapd_clock.specs.Timer.{AreInRange, Lengths, Order, Start, Stop, Timer, duration, is_same, kind_rank, service_rank, tei_rank, timer_cmp}
 pub use Rattle.lapd_clock.specs.Timers.{Expiry, Timers, after_due, after_first_due, count_on, due_at, expiry_cmp, first_due, first_moment, is_before, is_held, is_of, next_moment, time_until, without}
 unfoldable pub use Rattle.lapd_clock.specs.Timers.{finds_place, with_order}
-pub use Rattle.lapd_clock.specs.declared.line.Held.{Held}
+pub use Rattle.lapd_clock.specs.declared.clock.line.Held.{Held}

@@ -1,4 +1,5 @@
--- When timers fall due. Read in this order: Timer, Timers, InOrder, Sound; then Moments and Given.
+-- When timers fall due. Read in this order: Timer, Timers, InOrder, Sound; then Moments and Given. Of a clock: Firsts, Places, Image
+-- and Restoring. Of timers each in a place of its own: OwnPlaces, Bounds and MomentImage.
 pub mod Timer
 pub mod Timers
 pub mod InOrder
@@ -9,3 +10,6 @@ pub mod Image
 pub mod Restoring
 pub mod Moments
 pub mod Given
+pub mod OwnPlaces
+pub mod Bounds
+pub mod MomentImage

@@ -7,7 +7,7 @@ use Rattle.lapd_clock.specs.Timer.{Timer, Lengths, timer_cmp, is_same}
 use Rattle.lapd_clock.specs.Timers.{Expiry, Timers, with_expiry}
 use Rattle.lapd_clock.specs.Sound.{IsSound}
 use Rattle.lapd_clock.specs.Firsts.{never, earliest}
-use Rattle.lapd_clock.specs.declared.line.Held.{Held}
+use Rattle.lapd_clock.specs.declared.clock.line.Held.{Held}
 
 -- whether one timer falls due before another of its line
 abbrev pub held_before : Held → Held → Bool

@@ -4,14 +4,17 @@ ghost use Rattle.std.specs.Prelude.{◌≡◌, false, ◌^◌, ◌<◌, ◌≤�
 ghost use Rattle.lapd_clock.specs.Timers.{idle, idle_with, with_lengths, finds_place, with_order, due_at, after_due, next_moment};
 ghost use Rattle.lapd_clock.specs.Sound.{IsSound, IsLeastDue};
 
+mod firsts;
+mod line;
 mod restored;
 mod saved;
 
 use crate::fault::StartFault;
-use crate::firsts::{Firsts, NEVER};
 use crate::lengths::Lengths;
-use crate::line::{Held, earliest_of, start, stop, take_first};
+use crate::timers::NEVER;
+use firsts::Firsts;
 use lapd_frame::{Order, Timer};
+use line::{Held, earliest_of, start, stop, take_first};
 use std::alloc::Global;
 use std::marker::Model;
 

@@ -4,16 +4,20 @@
 //! terminal (one link for each service), and one T201 or, at a terminal, T202 (Q.921 clause 5.9). Its events order timers
 //! started and stopped. A `Clock` keeps the moment at which each running timer falls due, and
 //! gives the timers back one after the other as their moments come. It reads no clock of its own:
-//! moments are numbers that its caller hands in, in milliseconds.
+//! moments are numbers that its caller hands in, in milliseconds. It finds a timer by a look at those of its line.
+//! `Moments` does the same for a caller who knows the place of each timer: it starts and stops it there, and looks at no other.
 //!
-//! - `clock`: `Clock`, the running timers of all lines.
-//! - `line`: the timers of one line. `firsts`: when the first of each line falls due, and which line's is the first of all.
+//! - `clock`: `Clock`, the running timers of all lines. `clock::line`: those of one line. `clock::firsts`: when the first of
+//!   each line falls due, and which line's is the first of all. `clock::saved`: a clock in an image, and restored from it.
+//! - `moments`: `Moments`, a place for each timer of each link of each line, and for each line's T201 and T202.
+//!   `moments::place`: one place. `moments::lead`: which place of a line falls due first, when one changes. `moments::look`:
+//!   which of the card does. `moments::saved`: the moment of a place in an image.
 //! - `lengths`: `Lengths`, how long the timers run. `timers`: which of them goes first at one moment.
-//! - `clock::saved`: a clock in an image, and restored from it.
 //! - `fault`: `StartFault` and `ImageFault`, why there is no clock, and `LengthFault`, which timer cannot run so long.
 //! - `laws`: what an order does to the moments of all timers.
 //!
-//! What each call answers and does is defined in `specs/Timers.antt` on the set of running timers.
+//! What each call answers and does is defined on the set of running timers: in `specs/Timers.antt` of a clock, in
+//! `specs/OwnPlaces.antt` of places.
 //!
 //! # Cost
 //!
@@ -30,13 +34,13 @@
 
 mod clock;
 mod fault;
-mod firsts;
 mod laws;
 mod lengths;
-mod line;
+mod moments;
 mod timers;
 
 pub use clock::Clock;
 pub use fault::{ImageFault, LengthFault, StartFault};
 pub use laws::orders_move_one_timer;
 pub use lengths::Lengths;
+pub use moments::Moments;

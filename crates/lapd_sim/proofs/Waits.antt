@@ -7,7 +7,7 @@ use Rattle.std.specs.List.{sum_by}
 use Rattle.lapd_clock.specs.Given.{lengths_of}
 use Rattle.lapd_clock.specs.declared.lengths.Lengths as rust_lengths
 use Rattle.lapd_link_steps.specs.declared.report.BareReport.{BareReport}
-use Rattle.lapd_moments.specs.Places.{timers_in}
+use Rattle.lapd_clock.specs.OwnPlaces.{timers_in}
 use Rattle.model_timed.specs.Clock.{at_moment}
 use Rattle.model_timed.proofs.Orders.{now-stays}
 use Rattle.lapd_sim.proofs.OfMachine.Expiries.{first_is_due}

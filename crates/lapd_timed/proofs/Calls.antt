@@ -8,9 +8,10 @@ use Rattle.lapd_clock.specs.Timer.{Timer, Lengths, Order, AreInRange}
 use Rattle.lapd_clock.specs.Timers as clocks
 use Rattle.lapd_clock.specs.Timers.{Expiry}
 use Rattle.lapd_clock.specs.Places.{in_order}
-use Rattle.lapd_moments.specs.Places.{AreIdle, timers_in, is_running, at, with_timer, without_timer, IsExchanged, IsRestarted}
-use Rattle.lapd_moments.proofs.Laid.{idle_holds, in_lines}
-use Rattle.lapd_moments.proofs.Standing.{rests}
+use Rattle.lapd_clock.specs.OwnPlaces.{AreIdle, timers_in, is_running, at, with_timer, without_timer, IsExchanged, IsRestarted}
+use Rattle.lapd_clock.proofs.Bounds.{in_lines}
+use Rattle.lapd_timed.proofs.Laid.{idle_holds}
+use Rattle.lapd_clock.proofs.Standing.{rests}
 use Rattle.model_card.specs.Card as cards
 use Rattle.model_card.specs.Card.{Card}
 use Rattle.model_card.proofs.Reaching.{reached-fresh}

@@ -5,8 +5,8 @@ use Rattle.lapd_card.specs.FrameCard.{Held}
 use Rattle.lapd_card.specs.FrameStands.{FrameStands}
 use Rattle.lapd_clock.specs.Timer.{Timer, T200, T203, Order, Start, Stop, duration}
 use Rattle.lapd_clock.specs.Timers.{Expiry}
-use Rattle.lapd_moments.specs.OfCard.{slot_of}
-use Rattle.lapd_moments.specs.Places.{with_timer, without_timer, IsExchanged, IsRestarted}
+use Rattle.lapd_timed.specs.OfCard.{slot_of}
+use Rattle.lapd_clock.specs.OwnPlaces.{with_timer, without_timer, IsExchanged, IsRestarted}
 use Rattle.lapd_frame.specs.declared.services.Service.{Service}
 use Rattle.lapd_store.specs.Store.{Store}
 use Rattle.model_card.specs.Card.{Card, line_at}

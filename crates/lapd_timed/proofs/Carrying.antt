@@ -6,11 +6,11 @@ use Rattle.lapd_clock.specs.Firsts.{never}
 use Rattle.lapd_clock.specs.Timer.{Timer, T200, T203, T201, T202, Start, Stop, duration}
 use Rattle.lapd_clock.specs.Timers.{Expiry, with_expiry, without}
 use Rattle.lapd_frame.specs.declared.services.Service.{Service}
-use Rattle.lapd_moments.specs.OfCard.{Holds, AreApart, slot_of, line_slot_of, timer_of, line_timer}
-use Rattle.lapd_moments.specs.Places.{timers_in, with_timer, without_timer, IsExchanged, IsItsPlace, IsRestarted}
-use Rattle.lapd_moments.proofs.InPlace.{started_in_place, stopped_in_place, stopped_nowhere}
-use Rattle.lapd_moments.proofs.Again.{holds_restarted}
-use Rattle.lapd_moments.proofs.OfCard.{its_place, line_place, found_place, link_running, runs_still, either_first, holds_started, holds_stopped, holds_line}
+use Rattle.lapd_timed.specs.OfCard.{Holds, AreApart, slot_of, line_slot_of, timer_of, line_timer}
+use Rattle.lapd_clock.specs.OwnPlaces.{timers_in, with_timer, without_timer, IsExchanged, IsItsPlace, IsRestarted}
+use Rattle.lapd_clock.proofs.OwnPlace.{started_in_place, stopped_in_place, stopped_nowhere}
+use Rattle.lapd_timed.proofs.OfCard.{holds_restarted}
+use Rattle.lapd_timed.proofs.OfCard.{its_place, line_place, found_place, link_running, runs_still, either_first, holds_started, holds_stopped, holds_line}
 use Rattle.lapd_tei.proofs.Tables.{place_of-is}
 use Rattle.lapd_tei.specs.Sound.{IsSoundTable}
 use Rattle.model_card.specs.Card.{Card, line_at}

@@ -15,15 +15,17 @@ use Rattle.lapd_clock.specs.Places.{in_order}
 use Rattle.lapd_clock.proofs.StandsFor.{IsInOrder-in_order}
 use Rattle.lapd_image.specs.Numbers.{number}
 use Rattle.lapd_image.specs.Reads.{IsReadAs}
-use Rattle.lapd_moments.specs.Image.{all_moments, line_moments}
-use Rattle.lapd_moments.specs.OfCard.{slot_of, line_slot_of, AreApart, Holds}
-use Rattle.lapd_moments.specs.Places.{at, is_running, nothing, timers_in, without_timer, AreIdle, AreUntil, RunsAt}
-use Rattle.lapd_moments.specs.Restored.{AreLinesRead, OnLine}
-use Rattle.lapd_moments.proofs.InPlace.{held_none, stopped_in_place}
-use Rattle.lapd_moments.proofs.Laid.{idle_holds}
-use Rattle.lapd_moments.proofs.OfCard.{each-running, found_place, holds_stopped, itself, runs_still}
-use Rattle.lapd_moments.proofs.RunAs.{held-here, runs-so}
-use Rattle.lapd_moments.proofs.Standing.{All-in_order, rests, runs}
+use Rattle.lapd_timed.specs.MomentsImage.{all_moments, line_moments}
+use Rattle.lapd_timed.specs.OfCard.{slot_of, line_slot_of, AreApart, Holds}
+use Rattle.lapd_clock.specs.OwnPlaces.{at, is_running, nothing, timers_in, without_timer, AreIdle, AreUntil, RunsAt}
+use Rattle.lapd_timed.specs.MomentsRead.{AreLinesRead}
+use Rattle.lapd_clock.proofs.OwnPlace.{held_none, stopped_in_place}
+use Rattle.lapd_timed.proofs.Laid.{idle_holds}
+use Rattle.lapd_clock.proofs.Again.{itself}
+use Rattle.lapd_timed.proofs.OfCard.{each-running, found_place, holds_stopped, runs_still}
+use Rattle.lapd_timed.proofs.RunAs.{held-here, runs-so}
+use Rattle.lapd_clock.proofs.First.{All-in_order}
+use Rattle.lapd_clock.proofs.Standing.{rests, runs}
 use Rattle.model_card.specs.Card.{Card, line_at}
 use Rattle.model_card.specs.Reached.{IsReached}
 use Rattle.model_image.specs.Clocks.{lengths}
@@ -35,19 +37,19 @@ use Rattle.model_timed.specs.Clock.{Clock}
 use Rattle.model_timed.specs.RunTheSame.{RunAs, as_they_are}
 use Rattle.lapd_timed.specs.Image.{AreReadFrom, AreSaved}
 use Rattle.lapd_timed.specs.Marked.{slot_in}
-use Rattle.lapd_timed.specs.Stands.{FallsWithinHour}
+use Rattle.lapd_timed.specs.Stands.{FallsWithinHour, IsOn}
 use Rattle.lapd_timed.specs.declared.card_timers.CardTimers.{CardTimers}
 use Rattle.lapd_timed.proofs.Spelled.{apart-on, get-dropped, get-taken, know, timers-spelled}
 
 -- one timer runs at one place
-module _ (m : Card) (lines terminals : ℕ) (es : List Expiry) (holds : Holds lines (2 * terminals) (slot_of terminals) (line_slot_of terminals) (OnLine m) es) (apart : AreApart lines (OnLine m)) where
+module _ (m : Card) (lines terminals : ℕ) (es : List Expiry) (holds : Holds lines (2 * terminals) (slot_of terminals) (line_slot_of terminals) (IsOn m) es) (apart : AreApart lines (IsOn m)) where
   two-places : (i j line : ℕ) (timer : Timer) → j ≢ i → RunsAt i line timer es → RunsAt j line timer es → ⊥
   two-places i j line timer other first second =
       let still : RunsAt j line timer (without_timer i es) = runs_still es i j line timer _ other second in
-      let left = holds_stopped lines (2 * terminals) (slot_of terminals) (line_slot_of terminals) (OnLine m) es holds i first.within in
-      let its = found_place lines (2 * terminals) (slot_of terminals) (line_slot_of terminals) (OnLine m) (without_timer i es) left apart j line timer still in
+      let left = holds_stopped lines (2 * terminals) (slot_of terminals) (line_slot_of terminals) (IsOn m) es holds i first.within in
+      let its = found_place lines (2 * terminals) (slot_of terminals) (line_slot_of terminals) (IsOn m) (without_timer i es) left apart j line timer still in
       let there : is_held line timer (timers_in (without_timer i es)) ≡ true = held-here (without_timer i es) j line timer its ∙ runs (at j (without_timer i es)) still.runs in
-      let gone = stopped_in_place es i line timer (found_place lines (2 * terminals) (slot_of terminals) (line_slot_of terminals) (OnLine m) es holds apart i line timer first) in
+      let gone = stopped_in_place es i line timer (found_place lines (2 * terminals) (slot_of terminals) (line_slot_of terminals) (IsOn m) es holds apart i line timer first) in
       let none : is_held line timer (timers_in (without_timer i es)) ≡ false = ap (is_held line timer) (sym gone) ∙ held_none line timer (without line timer (timers_in es)) (none_of-without line timer (timers_in es)) in
       false-true (sym none ∙ there)
     where
@@ -85,7 +87,7 @@ idle-until latest es rest = λ i d there runs. absurd (omega (arith, All-from_re
 
 pub none-yet : (m : Card) (lines terminals : ℕ) (front : List ℕ) (es : List Expiry) → m.config.lines ≡ lines → m.config.terminals ≡ terminals → AreIdle lines (4 * terminals + 2) es → AreLinesRead m terminals 0 front front es
 none-yet m lines terminals front es lines_are terminals_are idle = record {
-  places = record { terminals_are = terminals_are; holds = subst (λ n. Holds n (2 * terminals) (slot_of terminals) (line_slot_of terminals) (OnLine m) es) (sym lines_are) (idle_holds terminals lines (OnLine m) es idle) };
+  places = record { terminals_are = terminals_are; holds = subst (λ n. Holds n (2 * terminals) (slot_of terminals) (line_slot_of terminals) (IsOn m) es) (sym lines_are) (idle_holds terminals lines (IsOn m) es idle) };
   octets = refl;
   here = λ line h. absurd (omega (arith, h));
   others = λ line from there i inside. resting es i idle.rest;
@@ -148,8 +150,8 @@ module _ (t : CardTimers) (m : Card) (reached : IsReached m) (lines_are : m.conf
   abbrev its_rows : List (List ℕ)
   its_rows = rows t.lines (2 * t.terminals) t.changes.moments
 
-  holds : Holds t.lines (2 * t.terminals) (slot_of t.terminals) (line_slot_of t.terminals) (OnLine m) t.moments
-  holds = subst (λ n. Holds n (2 * t.terminals) (slot_of t.terminals) (line_slot_of t.terminals) (OnLine m) t.moments) lines_are read.places.holds
+  holds : Holds t.lines (2 * t.terminals) (slot_of t.terminals) (line_slot_of t.terminals) (IsOn m) t.moments
+  holds = subst (λ n. Holds n (2 * t.terminals) (slot_of t.terminals) (line_slot_of t.terminals) (IsOn m) t.moments) lines_are read.places.holds
 
   run : RunAs as_they_are m its_clock
   run = runs-so m its_clock t.lines t.terminals t.moments lines_are refl holds (apart-on m t.lines reached lines_are) (know m t.lines t.terminals reached lines_are terminals_are)
@@ -221,7 +223,7 @@ module _ (t : CardTimers) (m : Card) (reached : IsReached m) (lines_are : m.conf
 
 -- ---- each place is of a line
 
-pub on-lines : (m : Card) (lines terminals : ℕ) (es : List Expiry) → Holds lines (2 * terminals) (slot_of terminals) (line_slot_of terminals) (OnLine m) es → (j : ℕ) → j < length es → (at j es).line < lines
+pub on-lines : (m : Card) (lines terminals : ℕ) (es : List Expiry) → Holds lines (2 * terminals) (slot_of terminals) (line_slot_of terminals) (IsOn m) es → (j : ℕ) → j < length es → (at j es).line < lines
 on-lines m lines terminals es holds j within = elim (holds.layout.each j within) [
   | inl of ↦ subst (λ n. (at n es).line < lines) (sym of.is) (subst (λ n. n < lines) (sym (holds.at_links of.line of.number of.timer of.line_there of.number_there).line_is) of.line_there)
   | inr of ↦ subst (λ n. (at n es).line < lines) (sym of.is) (subst (λ n. n < lines) (sym (holds.at_lines of.line of.which of.line_there).line_is) of.line_there)

@@ -7,9 +7,10 @@ use Rattle.std.specs.Prelude.{IfSome}
 use Rattle.lapd_clock.specs.Timer.{Timer}
 use Rattle.lapd_clock.specs.Timers as clocks
 use Rattle.lapd_clock.specs.Timers.{Expiry, is_of}
-use Rattle.lapd_moments.specs.OfCard.{Holds, AreApart, slot_of, line_slot_of}
-use Rattle.lapd_moments.specs.Places.{timers_in, at, IsTaken, IsItsPlace}
-use Rattle.lapd_moments.proofs.OfCard.{itself, found_place, holds_stopped}
+use Rattle.lapd_timed.specs.OfCard.{Holds, AreApart, slot_of, line_slot_of}
+use Rattle.lapd_clock.specs.OwnPlaces.{timers_in, at, IsTaken, IsItsPlace}
+use Rattle.lapd_clock.proofs.Again.{itself}
+use Rattle.lapd_timed.proofs.OfCard.{found_place, holds_stopped}
 use Rattle.model_card.specs.Card.{Card}
 use Rattle.model_card.specs.Event.{at as event_at}
 use Rattle.model_line.specs.Event.{expiry}

@@ -7,11 +7,12 @@ use Rattle.lapd_clock.specs.Timer.{Timer}
 use Rattle.lapd_clock.specs.Timers.{Expiry, is_held, is_of}
 use Rattle.lapd_clock.proofs.Once.{All-from_in_order}
 use Rattle.lapd_frame.specs.declared.services.Service.{Service}
-use Rattle.lapd_moments.specs.OfCard.{slot_of, line_slot_of, timer_of}
-use Rattle.lapd_moments.specs.Places.{is_running, timers_in, at, RunsAt}
-use Rattle.lapd_moments.proofs.InPlace.{none_held}
-use Rattle.lapd_moments.proofs.OfCard.{itself, holds_moved}
-use Rattle.lapd_moments.proofs.Standing.{runs}
+use Rattle.lapd_timed.specs.OfCard.{slot_of, line_slot_of, timer_of}
+use Rattle.lapd_clock.specs.OwnPlaces.{is_running, timers_in, at, RunsAt}
+use Rattle.lapd_clock.proofs.OwnPlace.{none_held}
+use Rattle.lapd_clock.proofs.Again.{itself}
+use Rattle.lapd_timed.proofs.OfCard.{holds_moved}
+use Rattle.lapd_clock.proofs.Standing.{runs}
 use Rattle.lapd_tei.proofs.Tables.{place_of-is}
 use Rattle.model_card.specs.Card.{Card, line_at}
 use Rattle.model_card.specs.Event.{Event}

@@ -8,9 +8,9 @@ use Rattle.lapd_clock.specs.InOrder.{IsInOrder}
 use Rattle.lapd_clock.specs.Sound.{IsOneEach}
 use Rattle.lapd_clock.specs.Timers.{Expiry, is_before}
 use Rattle.lapd_clock.proofs.StandsFor.{IsInOrder-in_order}
-use Rattle.lapd_moments.specs.Places.{at, is_running}
-use Rattle.lapd_moments.proofs.OfCard.{each-running}
-use Rattle.lapd_moments.proofs.Standing.{All-in_order}
+use Rattle.lapd_clock.specs.OwnPlaces.{at, is_running}
+use Rattle.lapd_timed.proofs.OfCard.{each-running}
+use Rattle.lapd_clock.proofs.First.{All-in_order}
 use Rattle.model_card.specs.Card.{Card}
 use Rattle.model_image.specs.Images.{Saved}
 use Rattle.model_image.specs.Sound.{AreChanges, AreMoments, IsClockOf, IsSaved}

@@ -12,9 +12,9 @@ use Rattle.lapd_clock.specs.Timers.{Expiry, is_of}
 use Rattle.lapd_image.specs.Numbers.{number}
 use Rattle.lapd_image.specs.Reads.{HasNone}
 use Rattle.lapd_image.proofs.Reading.{number-read}
-use Rattle.lapd_moments.specs.Image.{IsStartedBy}
-use Rattle.lapd_moments.specs.Restored.{line_part, links_part, own_part, FallsUntil, Passes}
-use Rattle.lapd_moments.proofs.InImage.{flat-flat}
+use Rattle.lapd_clock.specs.MomentImage.{IsStartedBy}
+use Rattle.lapd_timed.specs.MomentsRead.{line_part, links_part, own_part, FallsUntil, Passes}
+use Rattle.lapd_timed.proofs.InImage.{flat-flat}
 use Rattle.model_card.specs.Card.{Card, line_at}
 use Rattle.model_image.specs.Clocks.{moment}
 use Rattle.model_line.specs.Image.{timer_numbered}

@@ -15,10 +15,10 @@ use Rattle.model_card.specs.declared.kinds.CardKind.{CardKind}
 use Rattle.model_card.specs.declared.kinds.CardKind.TheVariants as kinds
 use Rattle.model_line.specs.ConfigImage.{config}
 use Rattle.model_line.specs.Image.{line}
-use Rattle.lapd_moments.specs.Image.{all_moments}
-use Rattle.lapd_moments.specs.OfCard.{AreApart}
-use Rattle.lapd_moments.proofs.InImage.{card-octets}
-use Rattle.lapd_moments.proofs.RunAs.{KnowPlaces, runs-here}
+use Rattle.lapd_timed.specs.MomentsImage.{all_moments}
+use Rattle.lapd_timed.specs.OfCard.{AreApart}
+use Rattle.lapd_timed.proofs.InImage.{card-octets}
+use Rattle.lapd_timed.proofs.RunAs.{KnowPlaces, runs-here}
 use Rattle.lapd_tei.proofs.Tables.{place_of-is}
 use Rattle.model_card.specs.Card.{Card, line_at}
 use Rattle.model_card.specs.Reached.{IsReached}

@@ -11,8 +11,8 @@ use Rattle.lapd_clock.specs.Timer.{Lengths, AreInRange}
 use Rattle.lapd_image.specs.Numbers.{number}
 use Rattle.lapd_image.specs.Reads.{HasNone, IsReadAs}
 use Rattle.lapd_image.proofs.Reading.{front-read, length-each, length-number, number-read}
-use Rattle.lapd_moments.specs.Restored.{lines_part, FallsUntil, Passes}
-use Rattle.lapd_moments.proofs.InImage.{flat-flat}
+use Rattle.lapd_timed.specs.MomentsRead.{lines_part, FallsUntil, Passes}
+use Rattle.lapd_timed.proofs.InImage.{flat-flat}
 use Rattle.model_card.specs.Card.{Card, line_at}
 use Rattle.model_image.specs.Clocks.{lengths, moment, moments, moments_at}
 use Rattle.model_line.specs.Image.{timers}

@@ -1,6 +1,10 @@
 -- A card that keeps its own timers.
 --
--- Read after those of `model_timed` and `lapd_moments`: Places, Marked, Touches, Named, Stands, Carried, Kinds, TimedStands, Called, Image.
+-- Read after those of `model_timed` and OwnPlaces of `lapd_clock`: OfCard, Places, Marked, Touches, Named, Stands, Carried, Kinds,
+-- TimedStands, Called, MomentsImage, MomentsRead, Image.
+pub mod OfCard
+pub mod MomentsImage
+pub mod MomentsRead
 pub mod Places
 pub mod Marked
 pub mod Touches

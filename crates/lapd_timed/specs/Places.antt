@@ -3,8 +3,8 @@ use Rattle.std.specs.Prelude.{◌≡◌, ℕ, true, false, ◌<◌, List, All, O
 use Rattle.lapd_clock.specs.Timer.{Timer, T200, T203, T201, T202}
 use Rattle.lapd_clock.specs.Timers.{Expiry}
 use Rattle.lapd_frame.specs.declared.services.Service.{Service}
-use Rattle.lapd_moments.specs.OfCard.{slot_of, line_slot_of}
-use Rattle.lapd_moments.specs.Places.{RunsAt, is_nowhere}
+use Rattle.lapd_timed.specs.OfCard.{slot_of, line_slot_of}
+use Rattle.lapd_clock.specs.OwnPlaces.{RunsAt, is_nowhere}
 use Rattle.model_line.specs.Line.{Line, link_number, place_in}
 use Rattle.model_link.specs.declared.timers.LinkTimer.{LinkTimer}
 use Rattle.model_link.specs.declared.timers.LinkTimer.TheVariants as link

@@ -5,8 +5,8 @@ use Rattle.lapd_clock.specs.Timer.{Timer, Lengths, AreInRange}
 use Rattle.lapd_clock.specs.Timers.{Expiry}
 use Rattle.lapd_card.specs.FrameCard.{Held}
 use Rattle.lapd_card.specs.FrameStands.{FrameStands}
-use Rattle.lapd_moments.specs.OfCard.{Holds, slot_of, line_slot_of}
-use Rattle.lapd_moments.specs.Places.{timers_in}
+use Rattle.lapd_timed.specs.OfCard.{Holds, slot_of, line_slot_of}
+use Rattle.lapd_clock.specs.OwnPlaces.{timers_in}
 use Rattle.lapd_store.specs.Store.{Store}
 use Rattle.model_card.specs.Card.{Card, line_at}
 use Rattle.model_card.specs.Event.{Event}

@@ -13,9 +13,8 @@ ghost use Rattle.model_timed.specs.Clock.{Clock, stopped, due, without_first, ne
 ghost use Rattle.lapd_timed.specs.Places.{named_by, AreOnLines};
 
 use crate::changes::Changes;
-use lapd_clock::Lengths;
+use lapd_clock::{Lengths, Moments};
 use lapd_frame::Timer;
-use lapd_moments::Moments;
 use std::alloc::{AllocError, Global};
 
 /// The last moment, in milliseconds.

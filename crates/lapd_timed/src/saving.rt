@@ -3,7 +3,7 @@
 ghost use Rattle.std.specs.Prelude.{ℕ, ◌*◌, ◌<◌, ◌≤◌, List, length};
 ghost use Rattle.lapd_clock.specs.Given.{lengths_of};
 ghost use Rattle.lapd_image.specs.Puts.{Puts};
-ghost use Rattle.lapd_moments.specs.Image.{all_moments, line_moments, link_moments, links_moments};
+ghost use Rattle.lapd_timed.specs.MomentsImage.{all_moments, line_moments, link_moments, links_moments};
 ghost use Rattle.lapd_timed.specs.Image.{timers_part};
 ghost use Rattle.model_card.specs.Card.{Card};
 ghost use Rattle.model_image.specs.Clocks as clocks;

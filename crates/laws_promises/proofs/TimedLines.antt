@@ -8,8 +8,8 @@ use Rattle.std.specs.Prelude.{All, option_to_list}
 use Rattle.lapd_clock.specs.Timer.{Timer}
 use Rattle.lapd_clock.specs.Timers.{Expiry}
 use Rattle.lapd_clock.proofs.Ordered.{All-filter}
-use Rattle.lapd_moments.specs.Places.{is_running, timers_in}
-use Rattle.lapd_moments.proofs.Standing.{All-in_order}
+use Rattle.lapd_clock.specs.OwnPlaces.{is_running, timers_in}
+use Rattle.lapd_clock.proofs.First.{All-in_order}
 use Rattle.model_card.specs.Card.{Card}
 use Rattle.model_timed.specs.Clock.{Clock, due, first_due, without_first}
 use Rattle.model_timed.specs.Timed.{Kind, Timed, Step, happens, time, falls_due, after, expiry_at, with_event, with_expiry}

@@ -6,7 +6,7 @@ use Rattle.lapd_clock.specs.Timer.{Timer, T200, T203}
 use Rattle.lapd_clock.specs.Timers.{with_expiry}
 use Rattle.lapd_frame.specs.declared.timers.Timer.TheVariants as timers
 use Rattle.model_line.specs.Event as line_event
-use Rattle.lapd_clock.proofs.Moments.{start_moves_one, stop_moves_one}
+use Rattle.lapd_clock.proofs.OneMoved.{start_moves_one, stop_moves_one}
 use Rattle.std.proofs.lemmas.Cmp.{eq_by_cmp_equiv}
 use Rattle.std.specs.declared.cmp.Ordering.TheVariants.{Equal}
 

@@ -9,7 +9,7 @@ use Rattle.lapd_clock.specs.Sound.{IsOneEach}
 use Rattle.lapd_clock.specs.Timer.{Timer, is_same}
 use Rattle.lapd_clock.specs.Timers.{Expiry, is_before, is_of}
 use Rattle.lapd_clock.proofs.First.{before_itself}
-use Rattle.lapd_clock.proofs.Moments.{moment_of-none, of_itself}
+use Rattle.lapd_clock.proofs.OneMoved.{moment_of-none, of_itself}
 use Rattle.lapd_clock.proofs.TimerOrder.{same_expiry}
 use Rattle.model_timed.specs.Clock.{Clock}
 use Rattle.model_timed.proofs.Orders.{both, same-number, equal}

@@ -5,7 +5,7 @@ use Rattle.std.specs.Option.{option_map_or}
 use Rattle.std.proofs.lemmas.List.Sums.{fold-append}
 use Rattle.lapd_clock.specs.Timer.{T200, T203, T201, T202}
 use Rattle.lapd_clock.proofs.First.{no_earlier}
-use Rattle.lapd_clock.proofs.Moments.{moment_of-none, of_itself}
+use Rattle.lapd_clock.proofs.OneMoved.{moment_of-none, of_itself}
 use Rattle.model_timed.specs.Clock.{Clock, obey, obeyed, stopped, due, first_due, without_first, at_moment, first_moment, with_lengths}
 use Rattle.model_timed.specs.Timed.{Kind, Timed, Step, happens, time, falls_due, after, with_expiry, expiry_at, IsInTime, IsPrompt}
 use Rattle.model_timed.specs.Sayings.{ordered, expired, order_at, said, said_by_event, said_by_expiry}

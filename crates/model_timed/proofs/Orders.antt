@@ -2,7 +2,7 @@
 use Rattle.lapd_clock.proofs.Vocabulary.{◌≡◌, ℕ, ◌+◌, ◌==◌, ◌&&◌, ◌||◌, not, Bool, true, false, cond, List, [], ◌∷◌, Some, None, refl, sym, ap, ◌∙◌, subst, arith, nat_tests, AllByRecursion, Timer, Order, Start, Stop, is_same, duration, Expiry, Timers, is_before, is_of, is_held, without, count_on, IsInOrder, IsOneEach, moment_of, eq_by_cmp_equiv}
 use Rattle.std.specs.Prelude.{is_some}
 use Rattle.lapd_clock.specs.Timers.{with_expiry, with_order, finds_place}
-use Rattle.lapd_clock.proofs.Moments.{start_moves_one, stop_moves_one}
+use Rattle.lapd_clock.proofs.OneMoved.{start_moves_one, stop_moves_one}
 use Rattle.lapd_clock.proofs.Ordered.{All-filter, All-put_in_order, IsInOrder-filter, IsInOrder-put_in_order}
 use Rattle.lapd_clock.proofs.Running.{IsOneEach-filter, IsOneEach-put_in_order, none_of-without}
 use Rattle.lapd_clock.proofs.TimerOrder.{before_order, same_timer, timer_total}

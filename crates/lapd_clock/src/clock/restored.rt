@@ -10,11 +10,11 @@ ghost use Rattle.lapd_image.specs.Numbers.{list_of};
 ghost use Rattle.lapd_image.specs.Reads.{HasNone, IsReadAs};
 
 use super::Clock;
+use super::line::{Held, add, earliest_of};
 use super::saved::HEAD;
 use crate::fault::ImageFault;
-use crate::firsts::NEVER;
 use crate::lengths::Lengths;
-use crate::line::{Held, add, earliest_of};
+use crate::timers::NEVER;
 use lapd_frame::{LAST_TEI, Service, Timer};
 use lapd_image::{BadImage, Reader};
 use std::alloc::Global;

@@ -4,13 +4,13 @@ ghost use Rattle.std.specs.Prelude.{◌≡◌, ◌≤◌, List, length};
 ghost use Rattle.lapd_clock.specs.Given.{lengths_of};
 ghost use Rattle.lapd_clock.specs.Image.{image, lengths, most_octets, timer, AreItsTimers};
 ghost use Rattle.lapd_clock.specs.Timer.{kind_rank, rank_of_service, service_rank, tei_rank};
-ghost use Rattle.lapd_clock.specs.declared.line.Held.{Held as Running};
+ghost use Rattle.lapd_clock.specs.declared.clock.line.Held.{Held as Running};
 ghost use Rattle.lapd_image.specs.Numbers.{list_of};
 ghost use Rattle.lapd_image.specs.Puts.{Puts};
 
 use super::Clock;
+use super::line::Held;
 use crate::lengths::Lengths;
-use crate::line::Held;
 use lapd_frame::{Service, Timer};
 use lapd_image::{put_number, put_octet, put_octets};
 

@@ -7,7 +7,7 @@ use Rattle.std.proofs.lemmas.List.FromFn.{get_or-map-range_with_len, length-map-
 use Rattle.lapd_card.specs.Kinds.{config_of, counters_of, frames_of, kind_of, shelf_of, FrameCardStands}
 use Rattle.lapd_card.specs.declared.kinds.AnyCard.{AnyCard}
 use Rattle.lapd_card.specs.declared.kinds.AnyCard.TheVariants as rust
-use Rattle.lapd_moments.specs.OfCard.{Holds, slot_of, line_slot_of}
+use Rattle.lapd_timed.specs.OfCard.{Holds, slot_of, line_slot_of}
 use Rattle.lapd_timed.specs.Image.{IsRestoredFrom, MayBeSaved, StandsFor}
 use Rattle.lapd_timed.specs.Stands.{IsOn}
 use Rattle.lapd_timed.specs.declared.card_timers.CardTimers.{CardTimers}

@@ -1,5 +1,5 @@
 -- Hand-written answers for `orders_move_one_timer`.
-use Rattle.lapd_clock.proofs.Moments.{start_moves_one, stop_moves_one}
+use Rattle.lapd_clock.proofs.OneMoved.{start_moves_one, stop_moves_one}
 use Rattle.lapd_clock.proofs.laws.orders_move_one_timer.Goals as goal
 
 pub returns-clause-started : goal.returns-clause-started

@@ -2,9 +2,9 @@
 use Rattle.std.proofs.Common.{◌*◌, ◌<◌, sym, subst, ◌∙◌}
 use Rattle.std.proofs.lemmas.Result.{on_err_weaker, on_ok_weaker}
 use Rattle.lapd_image.proofs.Reading.{on_err}
-use Rattle.lapd_moments.specs.Restored.{links_part, own_part}
-use Rattle.lapd_moments.proofs.Passing.{none-as, none-first, none-then, passes-as, passes-then}
-use Rattle.lapd_moments.proofs.Restoring.{own-rests, whole-line}
+use Rattle.lapd_timed.specs.MomentsRead.{links_part, own_part}
+use Rattle.lapd_timed.proofs.Passing.{none-as, none-first, none-then, passes-as, passes-then}
+use Rattle.lapd_timed.proofs.MomentsRead.{own-rests, whole-line}
 use Rattle.lapd_timed.proofs.Refilled.{line-parts}
 use Rattle.lapd_timed.proofs.restoring.restore_line.Goals as goal
 

@@ -1,9 +1,9 @@
 -- Line by line.
 use Rattle.std.proofs.Common.{arith, ◌<◌, ap, subst, ◌∙◌}
 use Rattle.lapd_image.proofs.Reading.{on_err}
-use Rattle.lapd_moments.specs.Restored.{lines_part, AreLinesRead, FallsUntil, Passes}
-use Rattle.lapd_moments.proofs.Passing.{none-number, passes-number}
-use Rattle.lapd_moments.proofs.Restoring.{one-more-line}
+use Rattle.lapd_timed.specs.MomentsRead.{lines_part, AreLinesRead, FallsUntil, Passes}
+use Rattle.lapd_timed.proofs.Passing.{none-number, passes-number}
+use Rattle.lapd_timed.proofs.MomentsRead.{one-more-line}
 use Rattle.model_image.specs.Clocks.{moments_at}
 use Rattle.lapd_timed.proofs.restoring.restore_lines.Goals as goal
 

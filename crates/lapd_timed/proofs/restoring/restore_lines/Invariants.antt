@@ -1,8 +1,8 @@
 -- The invariant of the loop of `restore_lines`.
 use Rattle.std.proofs.Common.{◌≡◌, length}
 use Rattle.lapd_card.specs.FrameStands.{FrameStands}
-use Rattle.lapd_moments.specs.Places.{AreUntil}
-use Rattle.lapd_moments.specs.Restored.{lines_part, AreLinesRead, FallsUntil, Passes}
+use Rattle.lapd_clock.specs.OwnPlaces.{AreUntil}
+use Rattle.lapd_timed.specs.MomentsRead.{lines_part, AreLinesRead, FallsUntil, Passes}
 use Rattle.model_card.specs.Card.{Card}
 use Rattle.lapd_timed.proofs.restoring.restore_lines.Given as goal
 

@@ -1,9 +1,9 @@
 -- The timer of a link is started, or the link runs none.
 use Rattle.std.proofs.Common.{arith, ◌+◌, ◌*◌, ◌<◌, ap, sym, subst, ◌∙◌, length}
 use Rattle.std.proofs.lemmas.Result.{on_err_weaker, on_ok_weaker}
-use Rattle.lapd_moments.specs.Image.{IsStartedBy}
-use Rattle.lapd_moments.proofs.OfCard.{length_set}
-use Rattle.lapd_moments.proofs.Restoring.{no-link, one-link}
+use Rattle.lapd_clock.specs.MomentImage.{IsStartedBy}
+use Rattle.lapd_timed.proofs.OfCard.{length_set}
+use Rattle.lapd_timed.proofs.MomentsRead.{no-link, one-link}
 use Rattle.model_card.specs.Card.{line_at}
 use Rattle.model_line.specs.Image.{timer_numbered}
 use Rattle.lapd_timed.proofs.Refilled.{none-one, passes-one}

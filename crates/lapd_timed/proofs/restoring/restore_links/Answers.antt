@@ -1,9 +1,9 @@
 -- Link by link.
 use Rattle.std.proofs.Common.{arith, ◌*◌, ◌<◌, sym, subst, ◌∙◌}
 use Rattle.lapd_image.proofs.Reading.{on_err}
-use Rattle.lapd_moments.specs.Restored.{links_part, part_of_link, AreLinksRead, FallsUntil, Passes}
-use Rattle.lapd_moments.proofs.Passing.{none-number, passes-number}
-use Rattle.lapd_moments.proofs.Restoring.{next-rests, one-more-link}
+use Rattle.lapd_timed.specs.MomentsRead.{links_part, part_of_link, AreLinksRead, FallsUntil, Passes}
+use Rattle.lapd_timed.proofs.Passing.{none-number, passes-number}
+use Rattle.lapd_timed.proofs.MomentsRead.{next-rests, one-more-link}
 use Rattle.lapd_timed.proofs.restoring.restore_links.Goals as goal
 
 pub returns-in_err-restore_link-clause-none : goal.returns-in_err-restore_link-clause-none

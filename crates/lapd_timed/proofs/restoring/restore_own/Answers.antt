@@ -2,9 +2,9 @@
 use Rattle.std.proofs.Common.{arith, ◌+◌, ◌*◌, ◌<◌, ap, sym, subst, ◌∙◌, length}
 use Rattle.std.proofs.lemmas.Result.{on_err_weaker, on_ok_weaker}
 use Rattle.lapd_card.specs.Running.{own_timers}
-use Rattle.lapd_moments.specs.Image.{IsStartedBy}
-use Rattle.lapd_moments.proofs.OfCard.{length_set}
-use Rattle.lapd_moments.proofs.Restoring.{no-own, one-own, place-within}
+use Rattle.lapd_clock.specs.MomentImage.{IsStartedBy}
+use Rattle.lapd_timed.proofs.OfCard.{length_set}
+use Rattle.lapd_timed.proofs.MomentsRead.{no-own, one-own, place-within}
 use Rattle.model_card.specs.Card.{line_at}
 use Rattle.lapd_timed.proofs.Refilled.{none-one, passes-one}
 use Rattle.lapd_timed.proofs.restoring.restore_own.Goals as goal

@@ -1,7 +1,7 @@
 -- A timer is started where it runs, or at its place, or stopped where it runs.
 use Rattle.std.proofs.Common.{◌∙◌, sym, ap, subst}
 use Rattle.lapd_clock.specs.Timer.{Start}
-use Rattle.lapd_moments.specs.Places.{with_timer}
+use Rattle.lapd_clock.specs.OwnPlaces.{with_timer}
 use Rattle.lapd_timed.specs.Stands.{held}
 use Rattle.lapd_timed.proofs.Carried.{IsDone, restart-done, start-done, start-nowhere, stop-done, stop-nowhere}
 use Rattle.lapd_timed.proofs.card_timers.CardTimers.carry_out.Goals as goal

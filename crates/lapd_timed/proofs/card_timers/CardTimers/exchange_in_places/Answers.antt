@@ -1,8 +1,8 @@
 -- The two orders are carried out in the places of the link.
 use Rattle.std.proofs.Common.{◌∙◌, ◌+◌, ap, arith}
 use Rattle.lapd_clock.specs.Timer.{T200, T203}
-use Rattle.lapd_moments.specs.OfCard.{slot_of}
-use Rattle.lapd_moments.specs.Places.{with_timer, without_timer}
+use Rattle.lapd_timed.specs.OfCard.{slot_of}
+use Rattle.lapd_clock.specs.OwnPlaces.{with_timer, without_timer}
 use Rattle.model_link.specs.declared.timers.LinkTimer.TheVariants as link
 use Rattle.lapd_timed.specs.Stands.{held}
 use Rattle.lapd_timed.proofs.Carried.{rests-done, sends-done}

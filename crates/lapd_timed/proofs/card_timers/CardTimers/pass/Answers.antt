@@ -1,6 +1,6 @@
 -- None is due at the moment.
 use Rattle.std.proofs.Common.{◌∙◌, ap}
-use Rattle.lapd_moments.specs.Places.{timers_in}
+use Rattle.lapd_clock.specs.OwnPlaces.{timers_in}
 use Rattle.model_timed.specs.Clock.{first_due}
 use Rattle.lapd_timed.proofs.Falling.{none-is}
 use Rattle.lapd_timed.proofs.card_timers.CardTimers.pass.Goals as goal

@@ -1,8 +1,8 @@
 -- Timers are read, part by part.
 use Rattle.std.proofs.Common.{arith, ◌+◌, ◌*◌, ◌<◌, ℕ, ap, sym, subst, ◌∙◌, get_or, length}
 use Rattle.std.proofs.lemmas.List.{length-replicate}
-use Rattle.lapd_moments.specs.OfCard.{slot_of, line_slot_of, Holds}
-use Rattle.lapd_moments.specs.Restored.{OnLine}
+use Rattle.lapd_timed.specs.OfCard.{slot_of, line_slot_of, Holds}
+use Rattle.lapd_timed.specs.Stands.{IsOn}
 use Rattle.model_line.proofs.Ranges.{ranges_of}
 use Rattle.lapd_timed.proofs.ClockRead.{idle-until, none-yet, on-lines, on-lines-all, read-from}
 use Rattle.lapd_timed.proofs.TimersRead.{if_err, none-of-changes, none-of-lines, none-of-moment}
@@ -34,7 +34,7 @@ invariant_of-result g c =
     let lines = ap (λ d. d.lines) s.config ∙ sym c.lines-lines.ensures in
     let terminals = ap (λ d. d.terminals) (s.config ∙ sym c.config.ensures.config) ∙ sym c.from-terminals.ensures in
     let read = c.in_ok-restore_lines.ensures.read m s (none-yet m c.lines-lines.result c.from-terminals.result c.restore_moment.new.reader c.in_ok-moments.moments lines terminals c.in_ok-moments.ensures) in
-    let holds = subst (λ n. Holds n (2 * c.from-terminals.result) (slot_of c.from-terminals.result) (line_slot_of c.from-terminals.result) (OnLine m) c.restore_lines.new.moments) lines read.places.holds in
+    let holds = subst (λ n. Holds n (2 * c.from-terminals.result) (slot_of c.from-terminals.result) (line_slot_of c.from-terminals.result) (IsOn m) c.restore_lines.new.moments) lines read.places.holds in
     record {
       past = c.in_ok-restore.ensures.past;
       few_lines = omega (arith, c.lines-lines.ensures, ap (λ d. d.lines) c.config.ensures.config, range.lines.most);
@@ -51,7 +51,7 @@ returns-clause-read g c = λ m s.
     let lines = ap (λ d. d.lines) s.config ∙ sym c.lines-lines.ensures in
     let terminals = ap (λ d. d.terminals) (s.config ∙ sym c.config.ensures.config) ∙ sym c.from-terminals.ensures in
     let read = c.in_ok-restore_lines.ensures.read m s (none-yet m c.lines-lines.result c.from-terminals.result c.restore_moment.new.reader c.in_ok-moments.moments lines terminals c.in_ok-moments.ensures) in
-    let holds = subst (λ n. Holds n (2 * c.from-terminals.result) (slot_of c.from-terminals.result) (line_slot_of c.from-terminals.result) (OnLine m) c.restore_lines.new.moments) lines read.places.holds in
+    let holds = subst (λ n. Holds n (2 * c.from-terminals.result) (slot_of c.from-terminals.result) (line_slot_of c.from-terminals.result) (IsOn m) c.restore_lines.new.moments) lines read.places.holds in
     let links = c.note_states.ensures.links ∙ ap (λ k. k.links) c.in_ok-changes.ensures in
     let many = length-replicate {A = ℕ} (c.lines-lines.result * (2 * c.from-terminals.result)) 0 in
     read-from _ m s.reached lines terminals c.args.reader.now c.restore_lengths.new.reader c.restore_moment.new.reader c.restore_lines.new.reader c.restore.new.reader

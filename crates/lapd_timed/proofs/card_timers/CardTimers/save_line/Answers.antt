@@ -1,7 +1,7 @@
 -- The moments of a line are written.
 use Rattle.std.proofs.Common.{arith, ap}
 use Rattle.lapd_image.proofs.Puts.{puts-same, puts-then}
-use Rattle.lapd_moments.specs.Image.{moment_at}
+use Rattle.lapd_clock.specs.MomentImage.{moment_at}
 use Rattle.lapd_timed.proofs.card_timers.CardTimers.save_line.Goals as goal
 
 pub returns : goal.returns

@@ -1,8 +1,8 @@
 -- The moments of links are written, one after the other.
 use Rattle.std.proofs.Common.{arith, ap}
 use Rattle.lapd_image.proofs.Puts.{puts-none, puts-same}
-use Rattle.lapd_moments.specs.Image.{link_moments, links_moments}
-use Rattle.lapd_moments.proofs.Passing.{puts-number}
+use Rattle.lapd_timed.specs.MomentsImage.{link_moments, links_moments}
+use Rattle.lapd_timed.proofs.Passing.{puts-number}
 use Rattle.lapd_timed.proofs.card_timers.CardTimers.save_links.Goals as goal
 
 pub loop-number-init : goal.loop-number-init

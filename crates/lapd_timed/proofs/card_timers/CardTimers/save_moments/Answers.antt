@@ -1,8 +1,8 @@
 -- The moments of lines are written, one after the other.
 use Rattle.std.proofs.Common.{arith, ap}
 use Rattle.lapd_image.proofs.Puts.{puts-none, puts-same}
-use Rattle.lapd_moments.specs.Image.{all_moments, line_moments}
-use Rattle.lapd_moments.proofs.Passing.{puts-number}
+use Rattle.lapd_timed.specs.MomentsImage.{all_moments, line_moments}
+use Rattle.lapd_timed.proofs.Passing.{puts-number}
 use Rattle.lapd_timed.proofs.card_timers.CardTimers.save_moments.Goals as goal
 
 pub loop-line-init : goal.loop-line-init

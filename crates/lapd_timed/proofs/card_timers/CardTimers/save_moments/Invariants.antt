@@ -1,6 +1,6 @@
 -- The invariant of the loop of `save_moments`.
 use Rattle.lapd_image.specs.Puts.{Puts}
-use Rattle.lapd_moments.specs.Image.{all_moments}
+use Rattle.lapd_timed.specs.MomentsImage.{all_moments}
 use Rattle.lapd_timed.proofs.card_timers.CardTimers.save_moments.Given as goal
 
 abbrev pub invariant-loop-line : goal.invariant-loop-line

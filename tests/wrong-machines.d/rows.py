@@ -27,7 +27,7 @@ SHARED = {
     "Both": "model_link",
     "Given": "laws_link",
     "Ends": "laws_link",
-    "Teis": "lapd_tei",
+    "Teis": "model_teis",
     "Lines": "model_line",
     "Cards": "laws_line",
     "Due": "laws_trace",

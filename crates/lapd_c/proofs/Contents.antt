@@ -4,9 +4,9 @@ use Rattle.lapd_c.proofs.Vocabulary.{Kept, frame_row, event_row, Change, Config,
 use Rattle.std.proofs.Common.{Some}
 use Rattle.model_link.specs.Events as link
 use Rattle.model_link.specs.Machine as links
-use Rattle.lapd_tei.specs.Events as teis
-use Rattle.lapd_tei.specs.declared.outcome.Change.TheVariants.{Gained, Left}
-use Rattle.lapd_terminal.specs.Events as terminals
+use Rattle.model_teis.specs.network.Events as teis
+use Rattle.model_teis.specs.declared.changes.Change.TheVariants.{Gained, Left}
+use Rattle.model_teis.specs.terminal.Events as terminals
 use Rattle.model_line.specs.Effect.{at_a_terminal, of_network, of_terminal, of_terminal_if, told_of_terminal}
 use Rattle.model_line.specs.Event.{Event, LineTold}
 use Rattle.model_line.specs.Line.{is_terminal, terminal_in, with_terminal}

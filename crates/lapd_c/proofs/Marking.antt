@@ -10,7 +10,7 @@ use Rattle.std.proofs.lemmas.Nat.Bits.{bit_at-zero}
 use Rattle.core.specs.Int.{from_bool}
 use Rattle.model_bits.specs.Bits.{bit_value, number_of}
 use Rattle.model_card.specs.Card.{Card, line_at}
-use Rattle.lapd_tei.proofs.Tables.{place_of-is}
+use Rattle.model_teis.proofs.Tables.{place_of-is}
 use Rattle.model_card.specs.Reached.{IsReached}
 use Rattle.model_card.proofs.Reaching.{reached-sound}
 use Rattle.model_card.proofs.Steps.{has_lines, line_sound}

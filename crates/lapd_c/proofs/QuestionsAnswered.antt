@@ -13,7 +13,7 @@ use Rattle.model_bits.specs.Stream.{Event, dropped, heard_in, overlong}
 use Rattle.model_bits.specs.declared.heads.Head.{Head}
 use Rattle.lapd_frame.specs.declared.refusals.Refusal.TheVariants.{BadTei, NoLink}
 use Rattle.lapd_frame.specs.declared.services.Service.TheVariants.{Call, Packet}
-use Rattle.lapd_tei.specs.Table.{has}
+use Rattle.model_teis.specs.Table.{has}
 use Rattle.model_link.specs.Link.{fresh}
 use Rattle.model_link.specs.Room as link
 use Rattle.model_line.specs.Counts.{is_given}
@@ -43,7 +43,7 @@ use Rattle.lapd_c.specs.Cards.{StandsIn}
 use Rattle.lapd_c.specs.Kept.{ChangesStandIn, timers_held}
 use Rattle.lapd_c.specs.ChangesAnswered.{ChangesAreAnswered, number_in}
 use Rattle.lapd_c.proofs.Halves.{even, odd}
-use Rattle.lapd_tei.proofs.Tables.{place_of-is}
+use Rattle.model_teis.proofs.Tables.{place_of-is}
 use Rattle.lapd_timed.specs.Marked.{moment_in}
 use Rattle.lapd_timed.specs.Places.{number_at}
 use Rattle.model_link.specs.Link.{state_number}

@@ -44,7 +44,7 @@ pub use Rattle.lapd_c.specs.Reports.{Shows, contents_or_none}
 pub use Rattle.lapd_c.specs.Requests.{read_of}
 pub use Rattle.lapd_c.specs.declared.plain.reports.PlainReport.{PlainReport}
 pub use Rattle.lapd_store.specs.Store.{Store}
-pub use Rattle.lapd_tei.specs.declared.outcome.Change.{Change}
+pub use Rattle.model_teis.specs.declared.changes.Change.{Change}
 pub use Rattle.model_card.specs.Card.{Card}
 pub use Rattle.model_card.specs.Counted.{all_counted, moment_counted, moment_of}
 pub use Rattle.model_card.specs.Event.{Event, at}

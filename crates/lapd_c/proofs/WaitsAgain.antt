@@ -8,7 +8,7 @@ use Rattle.lapd_frame.specs.declared.refusals.Refusal.{Refusal}
 use Rattle.lapd_frame.specs.declared.refusals.Refusal.TheVariants.{BadTei, NoLink}
 use Rattle.lapd_frame.specs.declared.services.Service.{Service}
 use Rattle.lapd_frame.specs.declared.services.Service.TheVariants.{Call, Packet}
-use Rattle.lapd_tei.proofs.Tables.{at-is_on, at-within}
+use Rattle.model_teis.proofs.Tables.{at-is_on, at-within}
 use Rattle.model_card.specs.Card.{Card, line_at}
 use Rattle.model_card.specs.Room.{free, room}
 use Rattle.model_card.specs.Sound.{IsSound}

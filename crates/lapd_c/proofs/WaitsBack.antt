@@ -6,7 +6,7 @@ use Rattle.std.specs.Prelude.{if◌then◌else◌, IsSome, Option, Some, None}
 use Rattle.std.proofs.lemmas.Bool.{cases_lt, false≢true, le-ltb}
 use Rattle.std.proofs.lemmas.List.{get_or_past, get_or-take}
 use Rattle.std.proofs.lemmas.List.FromFn.{fill_by_all, get_or-map-range_with_len, length-map-range_with_len}
-use Rattle.lapd_tei.proofs.Tables.{is_on-at, place_of-is}
+use Rattle.model_teis.proofs.Tables.{is_on-at, place_of-is}
 use Rattle.lapd_timed.proofs.WaitsRead.{bit-of}
 use Rattle.model_bits.specs.Bits.{number_of}
 use Rattle.model_card.specs.Card.{Card, line_at}

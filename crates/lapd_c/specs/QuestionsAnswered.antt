@@ -11,7 +11,7 @@ use Rattle.model_bits.specs.Stuffing.{stuffed}
 use Rattle.lapd_frame.specs.declared.addresses.Side.TheVariants.{User, Network}
 use Rattle.lapd_frame.specs.declared.services.Service.{Service}
 use Rattle.lapd_frame.specs.Reading.{reading}
-use Rattle.lapd_tei.specs.Events as teis
+use Rattle.model_teis.specs.network.Events as teis
 use Rattle.lapd_text.specs.Told.{told_text}
 use Rattle.model_link.specs.Link.{Link}
 use Rattle.model_line.specs.Event.{NextFrame, gave, next, request}

@@ -7,9 +7,9 @@ use Rattle.lapd_line.proofs.Vocabulary.{aim_at, is_ui, message_at, group_service
 use Rattle.lapd_line.proofs.Vocabulary.{LayerStands, Serves, always, told_in, IsClear}
 use Rattle.lapd_frame.specs.declared.readings.Reading.{Reading}
 use Rattle.lapd_frame.specs.declared.notes.Note.TheVariants as notes
-use Rattle.lapd_tei.specs.Table.{Places}
+use Rattle.model_teis.specs.Table.{Places}
 use Rattle.model_link.specs.Events as link
-use Rattle.lapd_tei.specs.Events as teis
+use Rattle.model_teis.specs.network.Events as teis
 use Rattle.lapd_line.specs.declared.addressing.Addressee.TheVariants as to
 use Rattle.lapd_line.specs.Addressing as aims
 use Rattle.lapd_line.proofs.ReportSteps.{clear_tells_nothing}

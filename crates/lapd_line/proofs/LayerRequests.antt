@@ -8,10 +8,10 @@ use Rattle.model_link.specs.Events as link
 use Rattle.model_link.specs.Link as machine
 use Rattle.model_link.specs.Machine as answers
 use Rattle.model_link.specs.Requests as links
-use Rattle.lapd_tei.specs.Events as teis
+use Rattle.model_teis.specs.network.Events as teis
 use Rattle.lapd_frame.specs.declared.refusals.Refusal.TheVariants.{WrongSide}
-use Rattle.lapd_tei.specs.Machine.{Management}
-use Rattle.lapd_terminal.specs.Events as terminals
+use Rattle.model_teis.specs.network.Machine.{Management}
+use Rattle.model_teis.specs.terminal.Events as terminals
 use Rattle.lapd_line.specs.declared.managing.Managing.TheVariants as kind
 use Rattle.lapd_line.specs.Requests.{is_bad, may_ask, refusal_at, request_asked}
 use Rattle.lapd_line.specs.declared.requests.TeiRequest.{TeiRequest}

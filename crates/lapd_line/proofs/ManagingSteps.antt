@@ -1,15 +1,15 @@
 -- TEI management of either kind: what its answers are to the machine of a line.
 use Rattle.lapd_line.proofs.Vocabulary.{◌≡◌, ℕ, true, false, cond, List, [], Option, Some, None, option_map, refl, sym, ap, subst, ◌∙◌, Config, Line, Own, Management, Aim, at_management, at_terminal, of_aim, of_change, of_network, of_terminal, of_terminal_if, at_a_terminal, told_of_management, told_of_terminal, is_terminal, terminal_in, terminal_with, with_terminal, nothing, IsProper, IsOfSide}
 use Rattle.lapd_line.proofs.Vocabulary.{aim_sound, TeiOutcome, told_of, changes_are_told, message_taken, with_message, with_own_message}
-use Rattle.lapd_tei.specs.Events as teis
-use Rattle.lapd_tei.specs.Laws as tei_laws
-use Rattle.lapd_tei.specs.Laws.{Moves}
-use Rattle.lapd_terminal.specs.Events as terminals
-use Rattle.lapd_terminal.specs.Laws as terminal_laws
-use Rattle.lapd_terminal.specs.Machine.{Terminal}
-use Rattle.lapd_terminal.specs.Sound as terminal_sound
-use Rattle.lapd_terminal.specs.Words.{Course}
-use Rattle.lapd_terminal.proofs.Served.{leads}
+use Rattle.model_teis.specs.network.Events as teis
+use Rattle.model_teis.specs.network.Laws as tei_laws
+use Rattle.model_teis.specs.Changes.{Moves}
+use Rattle.model_teis.specs.terminal.Events as terminals
+use Rattle.model_teis.specs.terminal.Laws as terminal_laws
+use Rattle.model_teis.specs.terminal.Machine.{Terminal}
+use Rattle.model_teis.specs.terminal.Sound as terminal_sound
+use Rattle.model_teis.specs.terminal.Words.{Course}
+use Rattle.model_teis.proofs.OfTerminal.Served.{leads}
 use Rattle.model_line.proofs.Managed.{idle_course}
 use Rattle.lapd_line.specs.declared.managing.Managing.{Managing}
 use Rattle.lapd_line.specs.declared.managing.Managing.TheVariants as kind

@@ -7,10 +7,10 @@ use Rattle.lapd_frame.specs.Grammar.{cr_bit}
 use Rattle.lapd_frame.specs.Senders.{exchanged}
 use Rattle.lapd_frame.proofs.AddressField.{cr_bit-small}
 use Rattle.lapd_frame.proofs.Naming.{service-below}
-use Rattle.lapd_tei.specs.Messages.{frame_of}
-use Rattle.lapd_terminal.specs.Messages as own_messages
-use Rattle.lapd_terminal.specs.declared.messages.Message.{Message as OwnMessage}
-use Rattle.lapd_terminal.specs.declared.messages.Message.TheVariants.{IdentityRequest, IdentityCheckResponse, IdentityVerify}
+use Rattle.model_teis.specs.network.Messages.{frame_of}
+use Rattle.model_teis.specs.terminal.Messages as own_messages
+use Rattle.model_teis.specs.declared.terminal.messages.Message.{Message as OwnMessage}
+use Rattle.model_teis.specs.declared.terminal.messages.Message.TheVariants.{IdentityRequest, IdentityCheckResponse, IdentityVerify}
 use Rattle.lapd_line.proofs.ManagingSteps.{message_of_kind}
 use Rattle.lapd_line.proofs.Vocabulary.{Managing, first_type, is_terminal, is_terminals, management_of, offered_by, own_of}
 use Rattle.lapd_line.specs.Managing.{without_message}

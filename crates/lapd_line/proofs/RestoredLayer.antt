@@ -6,7 +6,8 @@ use Rattle.lapd_image.specs.Numbers.{list_of}
 use Rattle.lapd_image.specs.Reads.{IsReadAs, HasNone}
 use Rattle.lapd_line.specs.ImageParts.{AreSavedLinks, AreSavedTeis, AreSavedUnits, HasNoLayer, HasNoLinks, HasNoTurn, HasNoUnits, IsSavedAt, IsSavedUnit, RestoresUnits, UnitsStand, tei_in, teis_image}
 use Rattle.lapd_link.specs.Image as links
-use Rattle.lapd_tei.specs.Image as network
+use Rattle.model_teis.specs.TableImage.{place}
+use Rattle.model_teis.specs.network.Image as network
 use Rattle.model_line.specs.Image as image
 use Rattle.model_link.specs.Image.{IsSavedLink}
 use Rattle.model_line.specs.Image.{IsWhole}
@@ -24,9 +25,9 @@ links_of c m = flat_map (image.link_numbered m) (range_with_len 0 (link_count c)
 abbrev pub beside_teis : Config → Line → List ℕ → List ℕ
 beside_teis c m more = list_of image.unit m.units ++ (m.turn ∷ (links_of c m ++ more))
 
-pub parts : (c : Config) (m : Line) (teis more : List ℕ) → teis ≡ map network.place m.management.places ++ image.teis (is_terminal c) m → image.line c m ++ more ≡ teis ++ beside_teis c m more
+pub parts : (c : Config) (m : Line) (teis more : List ℕ) → teis ≡ map place m.management.places ++ image.teis (is_terminal c) m → image.line c m ++ more ≡ teis ++ beside_teis c m more
 parts c m teis more is =
-    let table = map network.place m.management.places in
+    let table = map place m.management.places in
     let own = image.teis (is_terminal c) m in
     let units = list_of image.unit m.units in
     let rest = m.turn ∷ links_of c m in

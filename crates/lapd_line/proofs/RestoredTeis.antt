@@ -5,16 +5,17 @@ use Rattle.std.proofs.lemmas.List.{length-replicate}
 use Rattle.lapd_image.specs.Reads.{HasNone}
 use Rattle.lapd_line.specs.ImageParts.{teis_image, AreSavedTeis}
 use Rattle.lapd_line.specs.declared.managing.Managing.TheVariants as kind
-use Rattle.lapd_tei.specs.Image as network
-use Rattle.lapd_tei.specs.Sound.{IsSoundTable}
-use Rattle.lapd_tei.specs.Sound as tei
-use Rattle.lapd_tei.proofs.SoundWords.{memory-empty, queue-empty}
-use Rattle.lapd_terminal.specs.Image as terminal
-use Rattle.lapd_terminal.specs.Machine.{Terminal}
+use Rattle.model_teis.specs.TableImage.{place}
+use Rattle.model_teis.specs.network.Image as network
+use Rattle.model_teis.specs.Table.{IsSoundTable}
+use Rattle.model_teis.specs.network.Sound as tei
+use Rattle.model_teis.proofs.OfNetwork.SoundWords.{memory-empty, queue-empty}
+use Rattle.model_teis.specs.terminal.Image as terminal
+use Rattle.model_teis.specs.terminal.Machine.{Terminal}
 use Rattle.model_line.specs.Image as image
 use Rattle.model_line.specs.Image.{IsWhole}
 use Rattle.lapd_image.proofs.Reading.{front-read, split}
-use Rattle.lapd_tei.proofs.ImageRead.{places-read, management-read}
+use Rattle.model_teis.proofs.OfNetwork.ImageRead.{places-read, management-read}
 use Rattle.model_line.proofs.ImageRead.{procedure-fits, own-read}
 use Rattle.model_line.specs.Sound.{IsUnused}
 use Rattle.model_line.proofs.Checks.{unused-due, unused-read}
@@ -43,9 +44,9 @@ pub places_in : (like : Managing) (m : Line) → places_of (held_in like m) ≡ 
 places_in (kind.Network like) m = refl
 places_in (kind.Terminal like) m = refl
 
-pub image_in : (c : Config) (like : Managing) (m : Line) → is_terminals like ≡ is_terminal c → teis_image (held_in like m) ≡ map network.place m.management.places ++ image.teis (is_terminal c) m
-image_in c (kind.Network like) m same = ap (λ b. map network.place m.management.places ++ image.teis b m) same
-image_in c (kind.Terminal like) m same = ap (λ b. map network.place m.management.places ++ image.teis b m) same
+pub image_in : (c : Config) (like : Managing) (m : Line) → is_terminals like ≡ is_terminal c → teis_image (held_in like m) ≡ map place m.management.places ++ image.teis (is_terminal c) m
+image_in c (kind.Network like) m same = ap (λ b. map place m.management.places ++ image.teis b m) same
+image_in c (kind.Terminal like) m same = ap (λ b. map place m.management.places ++ image.teis b m) same
 
 -- where the line may be saved, so may that
 pub saved_in : (c : Config) (like : Managing) (m : Line) → is_terminals like ≡ is_terminal c → (fresh_line c).management ≡ management_of c like → IsWhole c m → AreSavedTeis like (held_in like m)
@@ -60,9 +61,9 @@ saved_in c (kind.Terminal like) m same begun whole = record {
 }
 
 -- The same octets are of the same one.
-places_read : (xs ys : Places) (r s : List ℕ) → length xs ≡ length ys → IsSoundTable xs → IsSoundTable ys → map network.place xs ++ r ≡ map network.place ys ++ s → (xs ≡ ys) × (r ≡ s)
+places_read : (xs ys : Places) (r s : List ℕ) → length xs ≡ length ys → IsSoundTable xs → IsSoundTable ys → map place xs ++ r ≡ map place ys ++ s → (xs ≡ ys) × (r ≡ s)
 places_read xs ys r s many sound also e =
-    let table = front-read (map network.place xs) (map network.place ys) r s (length-map xs network.place ∙ many ∙ sym (length-map ys network.place)) e in
+    let table = front-read (map place xs) (map place ys) r s (length-map xs place ∙ many ∙ sym (length-map ys place)) e in
     (places-read xs ys sound.range also.range table.0, table.1)
 
 abbrev own_in : Terminal → Own
@@ -71,7 +72,7 @@ own_in t = record { number = t.number; procedure = t.procedure; waiting = t.wait
 pub teis_read : (like x y : Managing) (r s : List ℕ) → AreSavedTeis like x → AreSavedTeis like y → teis_image x ++ r ≡ teis_image y ++ s → (x ≡ y) × (r ≡ s)
 teis_read (kind.Network like) (kind.Network x) (kind.Network y) r s saved also e =
     let table = places_read x.places y.places (network.management x ++ r) (network.management y ++ s) (saved.places ∙ sym also.places) saved.saved.sound.table also.saved.sound.table
-    (split (map network.place x.places) (network.management x) (map network.place y.places) (network.management y) r s e) in
+    (split (map place x.places) (network.management x) (map place y.places) (network.management y) r s e) in
     let dues = saved.saved.sound.due.each ∙ saved.places ∙ sym also.places ∙ sym also.saved.sound.due.each in
     let read = management-read x y r s (saved.reading ∙ sym also.reading) table.0 dues saved.saved.remembered also.saved.remembered table.1 in
     (ap (λ m. kind.Network m) read.0, read.1)
@@ -81,7 +82,7 @@ teis_read (kind.Terminal like) (kind.Network x) y r s saved also e = absurd save
 teis_read (kind.Terminal like) (kind.Terminal x) (kind.Network y) r s saved also e = absurd also
 teis_read (kind.Terminal like) (kind.Terminal x) (kind.Terminal y) r s saved also e =
     let table = places_read x.places y.places (terminal.beside_table x.number x.procedure x.waiting ++ r) (terminal.beside_table y.number y.procedure y.waiting ++ s) (saved.places ∙ sym also.places) saved.saved.sound.table also.saved.sound.table
-    (split (map network.place x.places) (terminal.beside_table x.number x.procedure x.waiting) (map network.place y.places) (terminal.beside_table y.number y.procedure y.waiting) r s e) in
+    (split (map place x.places) (terminal.beside_table x.number x.procedure x.waiting) (map place y.places) (terminal.beside_table y.number y.procedure y.waiting) r s e) in
     let read = own-read (own_in x) (own_in y) r s
     (record { number = saved.saved.sound.number; procedure = procedure-fits x.places x.procedure saved.saved.sound.runs })
     (record { number = also.saved.sound.number; procedure = procedure-fits y.places y.procedure also.saved.sound.runs }) table.1 in

@@ -14,8 +14,9 @@ use Rattle.lapd_image.specs.Puts.{Puts}
 use Rattle.lapd_line.specs.ImageParts.{teis_image, UnitsStand}
 use Rattle.lapd_line.specs.Units.{slots_of, slot_of}
 use Rattle.lapd_line.specs.declared.managing.Managing.TheVariants as kind
-use Rattle.lapd_tei.specs.Image.{place, management}
-use Rattle.lapd_tei.specs.Machine.{Management}
+use Rattle.model_teis.specs.TableImage.{place}
+use Rattle.model_teis.specs.network.Image.{management}
+use Rattle.model_teis.specs.network.Machine.{Management}
 use Rattle.model_line.specs.Image as image
 use Rattle.model_line.specs.Image.{own}
 use Rattle.model_line.specs.Stored.{unit_contents}

@@ -6,9 +6,9 @@ use Rattle.lapd_link.specs.Image.{IsSaved}
 use Rattle.model_bits.specs.StuffingLaws.{AreOctets}
 use Rattle.model_link.specs.Image.{IsSavedLink}
 use Rattle.model_line.specs.Image.{IsWhole}
-use Rattle.lapd_tei.specs.Messages.{information_of}
-use Rattle.lapd_terminal.specs.Messages as terminals
-use Rattle.lapd_tei.specs.Image.{HasRi}
+use Rattle.model_teis.specs.network.Messages.{information_of}
+use Rattle.model_teis.specs.terminal.Messages as terminals
+use Rattle.model_teis.specs.network.Image.{HasRi}
 use Rattle.model_link.specs.Link as machine
 use Rattle.model_link.specs.Timed.{IsTimed}
 use Rattle.lapd_line.proofs.RestoredTeis.{are_sized}

@@ -1,8 +1,8 @@
 -- An expiry and a request deliver nothing.
 use Rattle.lapd_line.proofs.Vocabulary.{arith, ◌≡◌, ℕ, true, false, cond, List, [], Option, Some, None, refl, ap, ◌∙◌, sym, option_or, Service, Timer, Config, Line, LineTold, of_aim, of_change, Aim, at_link, at_management, at_no_link, at_terminal, at_a_terminal, is_terminal, of_network, of_terminal_if, without_units, at_timer, aim_of_expiry, at_requested, at_deactivated, aim_of_request, Request}
 use Rattle.lapd_line.proofs.Vocabulary.{Terms, Course, link_in, terms, BareReport, told_in, told_beside, Change, LinkTimer, event_row}
-use Rattle.lapd_tei.specs.Events as teis
-use Rattle.lapd_terminal.specs.Events as terminals
+use Rattle.model_teis.specs.network.Events as teis
+use Rattle.model_teis.specs.terminal.Events as terminals
 use Rattle.model_link.specs.Events as link
 use Rattle.model_link.specs.Steps.{begun}
 use Rattle.model_link.specs.Words

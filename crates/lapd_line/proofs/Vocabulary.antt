@@ -80,15 +80,14 @@ pub use Rattle.lapd_store.proofs.Ownership.{Holds-empty, owned_octets-append}
 pub use Rattle.lapd_store.proofs.Queues.{Keeps-at, Keeps-put, Keeps-release, Keeps-used, length-pairs_of, owned_octets-pairs_of}
 pub use Rattle.lapd_store.specs.Ownership.{Holds, Keeps, Owned, owned_octets, pairs_of}
 pub use Rattle.lapd_store.specs.Store.{IsUsed, SameLimits, Store, contents_of, empty_store, used_slots, with_contents, without}
-pub use Rattle.lapd_tei.proofs.LawLemmas.{changes_are_told}
-pub use Rattle.lapd_tei.proofs.Tables.{at-within, is_on-at, place_of-is}
-pub use Rattle.lapd_tei.specs.Laws.{HasJoined, HasLeft, Moves}
-pub use Rattle.lapd_tei.specs.Machine.{Management, empty}
-pub use Rattle.lapd_tei.specs.Messages.{type_of}
+pub use Rattle.model_teis.proofs.OfNetwork.LawLemmas.{changes_are_told}
+pub use Rattle.model_teis.proofs.Tables.{at-within, is_on-at, place_of-is}
+pub use Rattle.model_teis.specs.Changes.{HasJoined, HasLeft, Moves}
+pub use Rattle.model_teis.specs.network.Machine.{Management, empty}
+pub use Rattle.model_teis.specs.network.Messages.{type_of}
 pub use Rattle.lapd_tei.specs.Outcome.{told_of}
-pub use Rattle.lapd_tei.specs.Sound.{IsAt}
-pub use Rattle.lapd_tei.specs.Table.{Places, is_on, place_of}
-pub use Rattle.lapd_tei.specs.declared.outcome.Change.TheVariants.{Gained, Left}
+pub use Rattle.model_teis.specs.Table.{IsAt, Places, is_on, place_of}
+pub use Rattle.model_teis.specs.declared.changes.Change.TheVariants.{Gained, Left}
 pub use Rattle.lapd_tei.specs.declared.outcome.TeiOutcome.{TeiOutcome}
 pub use Rattle.model_bits.proofs.BitLemmas.{bits-push}
 pub use Rattle.model_bits.specs.Bits.{bits, low_bits, number_of}
@@ -152,10 +151,10 @@ pub use Rattle.lapd_line.specs.Waiting.{has_next}
 pub use Rattle.lapd_line.specs.declared.port.Port.{Port}
 pub use Rattle.lapd_line.specs.declared.pulled.Pulled.{Pulled}
 pub use Rattle.lapd_link_steps.specs.Quiet.{IsQuiet}
-pub use Rattle.lapd_tei.specs.Events.{down, offered}
-pub use Rattle.lapd_tei.specs.declared.messages.Message.{Message}
-pub use Rattle.lapd_tei.specs.declared.messages.Message.TheVariants.{IdentityAssigned, IdentityCheckRequest, IdentityDenied, IdentityRemove}
-pub use Rattle.lapd_tei.specs.declared.outcome.Change.{Change}
+pub use Rattle.model_teis.specs.network.Events.{down, offered}
+pub use Rattle.model_teis.specs.declared.network.messages.Message.{Message}
+pub use Rattle.model_teis.specs.declared.network.messages.Message.TheVariants.{IdentityAssigned, IdentityCheckRequest, IdentityDenied, IdentityRemove}
+pub use Rattle.model_teis.specs.declared.changes.Change.{Change}
 pub use Rattle.model_bits.specs.Heard.{heard_of}
 pub use Rattle.model_bits.specs.declared.heard.Heard.{Heard}
 pub use Rattle.model_bits.specs.declared.heard.Heard.TheVariants.{Frame}

@@ -10,9 +10,8 @@ use Rattle.lapd_frame.specs.Readings.{by_reading}
 use Rattle.lapd_frame.specs.declared.readings.Reading.{Reading}
 use Rattle.lapd_frame.specs.Services.{service_of}
 use Rattle.model_link.specs.Events as link
-use Rattle.lapd_tei.specs.Events as teis
-use Rattle.lapd_tei.specs.Table.{Places, place_of}
-use Rattle.lapd_tei.specs.Sound.{IsAt}
+use Rattle.model_teis.specs.network.Events as teis
+use Rattle.model_teis.specs.Table.{Places, place_of, IsAt}
 use Rattle.model_line.specs.declared.config.Config.{Config}
 use Rattle.model_line.specs.Heard.{management_sapi, group_tei, drop_for}
 use Rattle.model_line.specs.Sides.{is_network}

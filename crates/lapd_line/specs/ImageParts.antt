@@ -16,9 +16,9 @@ use Rattle.lapd_link.specs.Image as links
 use Rattle.lapd_link.specs.declared.link.Link.{Link as LinkOf}
 use Rattle.lapd_store.specs.Ownership.{Owned, Holds}
 use Rattle.lapd_store.specs.Store.{Store, used_slots}
-use Rattle.lapd_tei.specs.Image as network
-use Rattle.lapd_tei.specs.Table.{Places}
-use Rattle.lapd_terminal.specs.Image as terminal
+use Rattle.model_teis.specs.network.Image as network
+use Rattle.model_teis.specs.Table.{Places}
+use Rattle.model_teis.specs.terminal.Image as terminal
 use Rattle.model_bits.specs.StuffingLaws.{AreOctets}
 use Rattle.model_line.specs.Image.{line, link_if, unit, IsWhole}
 use Rattle.model_link.specs.Image.{link}

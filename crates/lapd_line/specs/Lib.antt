@@ -39,11 +39,10 @@ pub use Rattle.lapd_link.specs.Events.{info_of, received_of}
 pub use Rattle.lapd_link_steps.specs.Quiet.{IsQuiet}
 pub use Rattle.lapd_store.specs.Ownership.{Holds, Owned}
 pub use Rattle.lapd_store.specs.Store.{SameLimits, Store, used_slots}
-pub use Rattle.lapd_tei.specs.Machine.{Management}
+pub use Rattle.model_teis.specs.network.Machine.{Management}
 pub use Rattle.lapd_tei.specs.Outcome.{IsShort, told_of}
-pub use Rattle.lapd_tei.specs.Sound.{IsAt}
-pub use Rattle.lapd_tei.specs.Table.{is_on}
-pub use Rattle.lapd_tei.specs.declared.outcome.Change.TheVariants.{Gained, Left}
+pub use Rattle.model_teis.specs.Table.{IsAt, is_on}
+pub use Rattle.model_teis.specs.declared.changes.Change.TheVariants.{Gained, Left}
 pub use Rattle.model_bits.specs.Heads.{head_of}
 pub use Rattle.model_bits.specs.Heard.{heard_of}
 pub use Rattle.model_bits.specs.declared.heard.Cause.TheVariants.{Unserved}

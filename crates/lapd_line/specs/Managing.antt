@@ -1,14 +1,14 @@
 -- TEI management of a line, of either kind: what it stands for of the machine's.
 use Rattle.std.specs.Prelude.{◌≡◌, ℕ, ◌+◌, Bool, true, false, List, [], slice_get, Option, Some, None, option_map}
 use Rattle.lapd_frame.specs.declared.addresses.Side.{Side}
-use Rattle.lapd_tei.specs.Events as teis
-use Rattle.lapd_tei.specs.Machine as tei
-use Rattle.lapd_tei.specs.Machine.{Management, empty}
-use Rattle.lapd_tei.specs.Table.{Places}
-use Rattle.lapd_tei.specs.Messages as messages
-use Rattle.lapd_terminal.specs.Events as terminals
-use Rattle.lapd_terminal.specs.Machine as terminal
-use Rattle.lapd_terminal.specs.Messages as own_messages
+use Rattle.model_teis.specs.network.Events as teis
+use Rattle.model_teis.specs.network.Machine as tei
+use Rattle.model_teis.specs.network.Machine.{Management, empty}
+use Rattle.model_teis.specs.Table.{Places}
+use Rattle.model_teis.specs.network.Messages as messages
+use Rattle.model_teis.specs.terminal.Events as terminals
+use Rattle.model_teis.specs.terminal.Machine as terminal
+use Rattle.model_teis.specs.terminal.Messages as own_messages
 use Rattle.model_line.specs.declared.config.Config.{Config}
 use Rattle.model_line.specs.Line.{Line, Own, fresh_line, is_terminal}
 use Rattle.lapd_line.specs.declared.managing.Managing.{Managing}

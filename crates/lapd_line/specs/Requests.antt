@@ -5,11 +5,11 @@ use Rattle.lapd_frame.specs.declared.refusals.Refusal.TheVariants.{BadTei, NoLin
 use Rattle.lapd_frame.specs.declared.services.Service.{Service}
 use Rattle.model_link.specs.Events as link
 use Rattle.model_link.specs.Requests as links
-use Rattle.lapd_tei.specs.Events as teis
+use Rattle.model_teis.specs.network.Events as teis
 use Rattle.model_line.specs.declared.config.Config.{Config}
-use Rattle.lapd_tei.specs.Machine.{Management}
-use Rattle.lapd_terminal.specs.Events as terminals
-use Rattle.lapd_terminal.specs.Machine.{Terminal}
+use Rattle.model_teis.specs.network.Machine.{Management}
+use Rattle.model_teis.specs.terminal.Events as terminals
+use Rattle.model_teis.specs.terminal.Machine.{Terminal}
 use Rattle.model_line.specs.Effect.{Aim, at_management, at_terminal}
 use Rattle.model_line.specs.Request.{Request, Assign, Remove, Check, Disown, AskTei, VerifyTei}
 use Rattle.model_line.specs.Sides.{has_management, is_network}

@@ -1,7 +1,7 @@
 -- An event that TEI management has served, and whose changes the links have still to follow.
 use Rattle.std.specs.Prelude.{◌≡◌}
 use Rattle.lapd_store.specs.Store.{Store}
-use Rattle.lapd_tei.specs.Laws.{Moves}
+use Rattle.model_teis.specs.Changes.{Moves}
 use Rattle.lapd_tei.specs.Outcome.{told_of}
 use Rattle.lapd_tei.specs.declared.outcome.TeiOutcome.{TeiOutcome}
 use Rattle.model_line.specs.declared.config.Config.{Config}

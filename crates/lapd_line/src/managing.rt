@@ -6,10 +6,10 @@ ghost use Rattle.lapd_line.specs.Managing.{places_of, is_terminals, own_of, offe
 ghost use Rattle.lapd_line.specs.Requests.{asked_aim, is_bad, refusal_at};
 ghost use Rattle.lapd_line.specs.TeiChanges.{IsAnswerTo, Answers};
 ghost use Rattle.lapd_tei.specs.Outcome.{IsShort, told_of};
-ghost use Rattle.lapd_tei.specs.Table.{place_of};
-ghost use Rattle.lapd_tei.specs.Events as teis;
-ghost use Rattle.lapd_terminal.specs.Events as terminals;
-ghost use Rattle.lapd_terminal.specs.Outcome.{told_of as terminal_told_of};
+ghost use Rattle.model_teis.specs.Table.{place_of};
+ghost use Rattle.model_teis.specs.network.Events as teis;
+ghost use Rattle.model_teis.specs.terminal.Events as terminals;
+ghost use Rattle.lapd_tei.specs.terminal.Outcome.{told_of as terminal_told_of};
 ghost use Rattle.model_line.specs.Effect.{at_management, at_terminal, note_of, order_of, told_of_management, told_of_terminal};
 ghost use Rattle.model_line.specs.Event as line_event;
 ghost use Rattle.model_line.specs.Sound.{IsInRange};
@@ -19,9 +19,7 @@ mod saved;
 use crate::fault::StartFault;
 use crate::requests::TeiRequest;
 use lapd_frame::{Note, Order, Refusal, ShortList, Side, Timer};
-use lapd_tei::{TeiOutcome, Teis};
-use lapd_terminal::{News, T202Order, TerminalOutcome};
-use lapd_terminal_teis::TerminalTeis;
+use lapd_tei::{News, T202Order, TeiOutcome, Teis, TerminalOutcome, TerminalTeis};
 use model_line::Config;
 use std::alloc::Global;
 

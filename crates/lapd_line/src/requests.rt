@@ -13,8 +13,7 @@ use crate::units::QueuedUnit;
 use lapd_frame::{GROUP, LAST_TEI, Refusal, Service, Side};
 use lapd_link::{BareReport, LinkRequest};
 use lapd_store::Shelf;
-use lapd_tei::{TeiOutcome, Teis};
-use lapd_terminal_teis::TerminalTeis;
+use lapd_tei::{TeiOutcome, Teis, TerminalTeis};
 use model_line::{Config, Request};
 
 /// What is asked of TEI management about a TEI.

@@ -1,6 +1,6 @@
 -- Check responses: one with more Ai than one is read by its places.
 use Rattle.lapd_tei.proofs.Vocabulary.{◌≡◌, ℕ, ◌≤◌, ◌<◌, ◌&&◌, Bool, true, false, cond, List, [], ◌∷◌, length, drop, refl, sym, ap, arith, list_any, Option, Some, None, has_actions, names, responses_in, is_among, slice_index, Check, Course, respond, count, counted}
-use Rattle.lapd_tei.proofs.Tables.{is_same}
+use Rattle.model_teis.proofs.Tables.{is_same}
 
 of_test : (tei : ℕ) (b : Bool) (octets : List ℕ) → is_among tei (cond b (Some octets) None) ≡ (b && list_any (names tei) octets)
 of_test tei true octets = refl

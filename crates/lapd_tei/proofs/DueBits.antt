@@ -6,7 +6,7 @@ use Rattle.model_bits.specs.Bits.{bit_value, low_bits, number_of}
 use Rattle.model_bits.proofs.BitLemmas.{low_bits-number_of_n, number_of-lt}
 use Rattle.lapd_image.specs.Reads.{HasNone}
 use Rattle.lapd_image.proofs.Reading.{heads}
-use Rattle.lapd_tei.specs.Image.{IsDueOf, due}
+use Rattle.model_teis.specs.network.Image.{IsDueOf, due}
 use Rattle.lapd_tei.proofs.Vocabulary.{Check, Places, Reading}
 
 -- one bit more, above the others

@@ -8,10 +8,10 @@ use Rattle.lapd_image.specs.Reads.{HasNone, IsReadAs}
 use Rattle.lapd_image.proofs.Reading.{no_number, number-read}
 use Rattle.lapd_image.proofs.Parts.{none-narrower, none-other}
 use Rattle.lapd_image.proofs.ReadLists.{All-front, All-last, IsKept, list-end, list-none, read-more, read-none}
-use Rattle.lapd_tei.specs.Image.{HasRi, IsMemory, IsMemoryOf, remembered, shares}
-use Rattle.lapd_tei.proofs.Lists.{IsDistinct-push}
-use Rattle.lapd_tei.proofs.ImageRead.{remembered-read}
-use Rattle.lapd_tei.proofs.SoundWords.{memory-empty}
+use Rattle.model_teis.specs.network.Image.{HasRi, IsMemory, IsMemoryOf, remembered, shares}
+use Rattle.model_teis.proofs.Lists.{IsDistinct-push}
+use Rattle.model_teis.proofs.OfNetwork.ImageRead.{remembered-read}
+use Rattle.model_teis.proofs.OfNetwork.SoundWords.{memory-empty}
 
 -- Too few octets are left for Ri, or none for the TEI.
 pub no_ri : {front : List ℕ} → length front < 2 → HasNone remembered HasRi front

@@ -6,9 +6,9 @@ use Rattle.lapd_image.specs.Reads.{HasNone, IsReadAs}
 use Rattle.lapd_image.proofs.Parts.{none-narrower}
 use Rattle.lapd_image.proofs.Reading.{Reads}
 use Rattle.lapd_image.proofs.ReadLists.{All-front, All-last, IsKept, list-none, read-more}
-use Rattle.lapd_tei.specs.Image.{IsOfOctets, IsQueue}
-use Rattle.lapd_tei.specs.Messages.{information_of}
-use Rattle.lapd_tei.proofs.ImageRead.{message-read, message-spelled, message_from}
+use Rattle.model_teis.specs.network.Image.{IsOfOctets, IsQueue}
+use Rattle.model_teis.specs.network.Messages.{information_of}
+use Rattle.model_teis.proofs.OfNetwork.ImageRead.{message-read, message-spelled, message_from}
 
 pub field-read : Reads IsOfOctets (λ (x y : Message). x ≡ y) information_of
 field-read x y r s few also e = message-read information_of message_from message-spelled x y r s tt tt e

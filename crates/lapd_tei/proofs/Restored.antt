@@ -6,9 +6,10 @@ use Rattle.lapd_image.specs.Numbers.{list_of}
 use Rattle.lapd_image.specs.Reads.{IsReadAs, HasNone}
 use Rattle.lapd_image.proofs.Parts.{none-after, none-part}
 use Rattle.lapd_image.proofs.Reading.{Reads, front-read, heads, list-read, tails}
-use Rattle.lapd_tei.specs.Image.{HasRi, IsDueOf, IsMemoryOf, IsQueue, IsSavedOf, IsTableOf, check, due, image, management, place, remembered, table}
-use Rattle.lapd_tei.specs.Messages.{information_of}
-use Rattle.lapd_tei.proofs.ImageRead.{bits-read, check-read, places-read, remembered-read}
+use Rattle.model_teis.specs.TableImage.{IsTableOf, place, table}
+use Rattle.model_teis.specs.network.Image.{HasRi, IsDueOf, IsMemoryOf, IsQueue, IsSavedOf, check, due, image, management, remembered}
+use Rattle.model_teis.specs.network.Messages.{information_of}
+use Rattle.model_teis.proofs.OfNetwork.ImageRead.{bits-read, check-read, places-read, remembered-read}
 use Rattle.lapd_tei.proofs.Vocabulary.{AnnexB, Check, IsAsRead, IsSound, IsSoundCheck, IsSoundQueue, Management, Places, Profile, Reading, Remembered}
 
 -- Each part is told from others.

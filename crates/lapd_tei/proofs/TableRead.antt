@@ -7,10 +7,10 @@ use Rattle.std.proofs.lemmas.List.Concat.{flat_map_single}
 use Rattle.lapd_image.specs.Reads.{HasNone, IsReadAs}
 use Rattle.lapd_image.proofs.Reading.{Reads, heads, tails}
 use Rattle.lapd_image.proofs.ReadLists.{IsKept, none-more, read-more, read-none}
-use Rattle.lapd_tei.specs.Image.{IsTableOf, one_place, place, table}
-use Rattle.lapd_tei.proofs.ImageRead.{place-read}
-use Rattle.lapd_tei.proofs.Tables.{at-within, at-off, at-is_on}
-use Rattle.lapd_tei.proofs.SoundWords.{table-empty}
+use Rattle.model_teis.specs.TableImage.{IsTableOf, one_place, place, table}
+use Rattle.model_teis.proofs.OfNetwork.ImageRead.{place-read}
+use Rattle.model_teis.proofs.Tables.{at-within, at-off, at-is_on}
+use Rattle.model_teis.proofs.Tables.{table-empty}
 
 -- a place that is free, or whose TEI a terminal can have
 abbrev pub IsPlace : Option ℕ → Type 0

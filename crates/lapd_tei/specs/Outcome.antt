@@ -3,8 +3,8 @@ use Rattle.std.specs.Prelude.{◌≡◌, ◌≤◌, [], length}
 use Rattle.lapd_frame.specs.ShortLists.{listed}
 use Rattle.lapd_tei.specs.declared.outcome.TeiOutcome.{TeiOutcome}
 use Rattle.lapd_tei.specs.declared.teis.Teis.TheInside.{Inside}
-use Rattle.lapd_tei.specs.Machine.{Management, TeiTold}
-use Rattle.lapd_tei.specs.Words.{Course}
+use Rattle.model_teis.specs.network.Machine.{Management, TeiTold}
+use Rattle.model_teis.specs.network.Words.{Course}
 
 abbrev pub told_of : TeiOutcome → TeiTold
 told_of o = record { notes = listed o.notes; change = o.change; orders = listed o.orders; lost = o.lost; unserved = o.unserved }

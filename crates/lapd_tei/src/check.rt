@@ -5,61 +5,40 @@ ghost use Rattle.lapd_tei.specs.{counted, responses, is_unanswered};
 
 mod saved;
 
-/// A check of a TEI that is under way (Q.921 clause 5.3.3.2).
-#[derive(Clone, Copy, PartialEq, Eq, Debug)]
-pub struct Check {
-    /// Of which TEI.
-    pub tei: u8,
-    /// Which run of T201 it is.
-    pub period: Period,
-    /// How many responses came in the first period: 0 or 1, since the second ends the check.
-    pub first: u8,
-    /// How many came in the second period: 0 or 1.
-    pub second: u8,
+use model_teis::network::{Check, Period};
+pub(crate) use saved::{restored, save};
+
+// The check with one response more in its period.
+pub(crate) fn counted(check: Check) -> Check
+    requires first { check.first ≤ 1 }
+    requires second { check.second ≤ 1 }
+    ensures { result ≡ counted check }
+{
+    match check.period {
+        Period::First => Check {
+            first: check.first + 1,
+            ..check
+        },
+        Period::Second => Check {
+            second: check.second + 1,
+            ..check
+        },
+    }
 }
 
-/// A check asks twice, and awaits responses for one run of T201 each time.
-#[derive(Clone, Copy, PartialEq, Eq, Debug)]
-pub enum Period {
-    /// The first run of T201.
-    First,
-    /// The second, after which the check ends.
-    Second,
+// How many responses came in its period.
+pub(crate) fn responses(check: Check) -> u8
+    ensures { result ≡ responses check }
+{
+    match check.period {
+        Period::First => check.first,
+        Period::Second => check.second,
+    }
 }
 
-impl Check {
-    // The check with one response more in its period.
-    pub(crate) fn counted(self) -> Check
-        requires first { self.first ≤ 1 }
-        requires second { self.second ≤ 1 }
-        ensures { result ≡ counted self }
-    {
-        match self.period {
-            Period::First => Check {
-                first: self.first + 1,
-                ..self
-            },
-            Period::Second => Check {
-                second: self.second + 1,
-                ..self
-            },
-        }
-    }
-
-    // How many responses came in its period.
-    pub(crate) fn responses(self) -> u8
-        ensures { result ≡ responses self }
-    {
-        match self.period {
-            Period::First => self.first,
-            Period::Second => self.second,
-        }
-    }
-
-    // Whether no response came in either period.
-    pub(crate) fn is_unanswered(self) -> bool
-        ensures { result ≡ is_unanswered self }
-    {
-        self.first == 0 && self.second == 0
-    }
+// Whether no response came in either period.
+pub(crate) fn is_unanswered(check: Check) -> bool
+    ensures { result ≡ is_unanswered check }
+{
+    check.first == 0 && check.second == 0
 }

@@ -2,48 +2,34 @@
 
 ghost use Rattle.std.specs.Prelude.{◌≡◌, ◌<◌, length, IfSome};
 ghost use Rattle.std.specs.List.{list_any, position};
-ghost use Rattle.lapd_tei.specs.Messages.{has_actions, heard_in, is_extended, is_last, names, responses_in};
-ghost use Rattle.lapd_tei.specs.Rows.{is_among};
+ghost use Rattle.model_teis.specs.network.Messages.{has_actions, heard_in, is_extended, is_last, names, responses_in};
+ghost use Rattle.model_teis.specs.network.Rows.{is_among};
 
-use crate::messages::{ENTITY, NO_TEI};
+use crate::information::{ENTITY, NO_TEI};
 use crate::table::LOWEST;
+use model_teis::network::Heard;
 
 // How many Ai a check response has, if it has more than one: a limit of ours (profile).
 const MOST_ACTIONS: usize = 64;
 
-/// A message of TEI management that a terminal sends (Q.921 clause 5.3.6, table 8).
-#[derive(Clone, Copy)]
-pub(crate) enum Heard {
-    /// A terminal asks for any TEI, by a reference number Ri of its choice (clause 5.3.2).
-    IdentityRequest { ri: u16 },
-    /// A terminal asks for this TEI, one of those that the network assigns.
-    IdentityRequestOf { ri: u16, tei: u8 },
-    /// A terminal has this TEI (clause 5.3.3.2).
-    IdentityCheckResponse { tei: u8 },
-    /// A terminal asks for a check of its TEI (clause 5.3.5).
-    IdentityVerify { tei: u8 },
-}
-
-impl Heard {
-    /// Which message the information of a UI frame is.
-    pub fn read(information: &[u8]) -> Option<Heard>
-        ensures { result ≡ heard_in information.now }
-    {
-        let &[entity, high, low, kind, last] = information else {
-            return None;
-        };
-        if entity != ENTITY || last % 2 != 1 {
-            return None;
-        }
-        let ri = u16::from_be_bytes([high, low]);
-        let tei = last / 2;
-        match kind {
-            1 if tei == NO_TEI => Some(Heard::IdentityRequest { ri }),
-            1 if tei >= LOWEST => Some(Heard::IdentityRequestOf { ri, tei }),
-            5 => Some(Heard::IdentityCheckResponse { tei }),
-            7 => Some(Heard::IdentityVerify { tei }),
-            _ => None,
-        }
+/// Which message the information of a UI frame is.
+pub(crate) fn read(information: &[u8]) -> Option<Heard>
+    ensures { result ≡ heard_in information.now }
+{
+    let &[entity, high, low, kind, last] = information else {
+        return None;
+    };
+    if entity != ENTITY || last % 2 != 1 {
+        return None;
+    }
+    let ri = u16::from_be_bytes([high, low]);
+    let tei = last / 2;
+    match kind {
+        1 if tei == NO_TEI => Some(Heard::IdentityRequest { ri }),
+        1 if tei >= LOWEST => Some(Heard::IdentityRequestOf { ri, tei }),
+        5 => Some(Heard::IdentityCheckResponse { tei }),
+        7 => Some(Heard::IdentityVerify { tei }),
+        _ => None,
     }
 }
 

@@ -2,13 +2,14 @@
 
 ghost use Rattle.std.specs.Prelude.{◌≡◌, ◌≤◌, [], length, drop, slice_get, IfOk};
 ghost use Rattle.std.specs.List.{list_any};
-ghost use Rattle.lapd_tei.specs.Words.{no_room, with_message, lost_after};
-ghost use Rattle.lapd_tei.specs.Rows.{asks_for, assigns_for};
+ghost use Rattle.model_teis.specs.network.Words.{no_room, with_message, lost_after};
+ghost use Rattle.model_teis.specs.network.Rows.{asks_for, assigns_for};
 
 mod saved;
 
-use crate::messages::Message;
+use crate::messages;
 use circular_buffer::HeapCircularBuffer;
+use model_teis::network::Message;
 use std::alloc::{AllocError, Global};
 use std::marker::Model;
 
@@ -23,7 +24,7 @@ pub(crate) struct Queue {
 
 impl Model for Queue {
     ghost use Rattle.std.specs.Prelude.{◌≡◌, List};
-    ghost use Rattle.lapd_tei.specs.declared.messages.Message.{Message};
+    ghost use Rattle.model_teis.specs.declared.network.messages.Message.{Message};
 
     ghost Value = { List Message };
 
@@ -71,14 +72,18 @@ impl Queue {
     pub fn asks_for(&self, tei: u8) -> bool
         ensures { result ≡ list_any (asks_for tei) self.now }
     {
-        self.messages.iter().any(|message| message.asks_for(tei))
+        self.messages
+            .iter()
+            .any(|message| messages::asks_for(*message, tei))
     }
 
     /// Whether an identity assigned for this Ri waits.
     pub fn assigns_for(&self, ri: u16) -> bool
         ensures { result ≡ list_any (assigns_for ri) self.now }
     {
-        self.messages.iter().any(|message| message.assigns_for(ri))
+        self.messages
+            .iter()
+            .any(|message| messages::assigns_for(*message, ri))
     }
 
     /// The message that has waited longest.

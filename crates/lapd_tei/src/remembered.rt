@@ -8,16 +8,8 @@ mod saved;
 
 use arrayvec::ArrayVec;
 use lapd_frame::Reading;
+use model_teis::network::Remembered;
 use std::marker::Model;
-
-/// The TEI that was assigned to a request with this reference number Ri.
-#[derive(Clone, Copy, PartialEq, Eq, Debug, Default)]
-pub struct Remembered {
-    /// The reference number of the request.
-    pub ri: u16,
-    /// The TEI, 64 to 126.
-    pub tei: u8,
-}
 
 /// The latest assignments of a line, the oldest first: at most four.
 #[derive(Drop, Debug)]
@@ -27,7 +19,7 @@ pub(crate) struct Memory {
 
 impl Model for Memory {
     ghost use Rattle.std.specs.Prelude.{List};
-    ghost use Rattle.lapd_tei.specs.declared.remembered.Remembered.{Remembered};
+    ghost use Rattle.model_teis.specs.declared.network.remembered.Remembered.{Remembered};
 
     ghost Value = { List Remembered };
 

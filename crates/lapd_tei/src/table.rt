@@ -1,12 +1,13 @@
 //! The table of the TEIs of a line.
 
-ghost use Rattle.std.specs.Prelude.{◌≡◌, ◌<◌, ◌≤◌, [], ◌∷◌, ◌++◌, Some, None, length, replicate, set, IfSome};
-ghost use Rattle.lapd_tei.specs.{Places, is_on, is_in_use, named, place_of, tei_at, free_place, free_tei, freed, teis_on};
+ghost use Rattle.std.specs.Prelude.{◌≡◌, ◌<◌, ◌≤◌, [], ◌∷◌, ◌++◌, Some, None, length, option_map, replicate, set, IfSome};
+ghost use Rattle.lapd_tei.specs.{Places, is_on, is_in_use, named, place_of, tei_at, free_place, free_tei, freed, left, teis_on};
 
 mod saved;
 
 use arrayvec::ArrayVec;
 use lapd_frame::GROUP;
+use model_teis::Change;
 use std::marker::Model;
 
 /// The most places that a table has.
@@ -22,7 +23,7 @@ pub struct Table {
 }
 
 impl Model for Table {
-    ghost use Rattle.lapd_tei.specs.Table.{Places};
+    ghost use Rattle.model_teis.specs.Table.{Places};
 
     ghost Value = { Places };
 
@@ -131,7 +132,7 @@ impl Table {
     }
 
     // The TEIs that are on the line, by place.
-    #[tactic(auto, using(crate::proofs::Named::teis_more, crate::proofs::Named::teis_room))]
+    #[tactic(auto, using(model_teis::proofs::Named::teis_more, model_teis::proofs::Named::teis_room))]
     fn teis(&self) -> ArrayVec<u8, MOST>
         ensures { result.items ≡ teis_on self.now }
     {
@@ -151,4 +152,11 @@ fn add(teis: &mut ArrayVec<u8, MOST>, own: Option<u8>)
     if let Some(tei) = own {
         teis.push(tei);
     }
+}
+
+// The change of a TEI that was at this place.
+pub(crate) fn left(tei: u8, place: Option<usize>) -> Option<Change>
+    ensures { result ≡ option_map (left tei) place }
+{
+    Some(Change::Left { tei, place: place? })
 }

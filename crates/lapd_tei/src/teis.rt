@@ -9,16 +9,16 @@ mod checks;
 mod requests;
 mod saved;
 
-use crate::check::Check;
 use crate::due::Due;
 use crate::fault::StartFault;
-use crate::heard::Heard;
-use crate::messages::Message;
-use crate::outcome::{Change, TeiOutcome};
+use crate::outcome::TeiOutcome;
 use crate::queue::Queue;
 use crate::remembered::Memory;
-use crate::table::Table;
+use crate::table::{Table, left};
+use crate::{heard, messages};
 use lapd_frame::{Order, Reading, Refusal, ShortList, Side, Timer};
+use model_teis::Change;
+use model_teis::network::{Check, Heard, Message};
 use std::alloc::Global;
 use std::marker::Model;
 
@@ -38,19 +38,19 @@ pub struct Teis {
 }
 
 impl Model for Teis {
-    ghost use Rattle.lapd_tei.specs.Machine.{Management};
+    ghost use Rattle.model_teis.specs.network.Machine.{Management};
 
     ghost Value = { Management };
 
     ghost use Rattle.lapd_tei.specs.Outcome.{management_of};
-    ghost use Rattle.lapd_tei.specs.Sound.{IsSound};
+    ghost use Rattle.model_teis.specs.network.Sound.{IsSound};
 
     ghost view = { management_of };
 
     ghost invariant = { λ t. IsSound (management_of t) };
 }
 
-#[tactic(auto, unfolding(crate::specs::Events::course, crate::specs::Events::refusal))]
+#[tactic(auto, unfolding(model_teis::specs::network::Events::course, model_teis::specs::network::Events::refusal))]
 impl Teis {
     /// TEI management of a line on which no TEI is, with room for `terminals` TEIs, 1 to 8, by the rows of the profile.
     ///
@@ -89,7 +89,7 @@ impl Teis {
         ensures after { self.new ≡ after (message information.now) self.old }
         ensures short { IsShort result }
     {
-        match Heard::read(information) {
+        match heard::read(information) {
             Some(Heard::IdentityRequest { ri }) => self.request(ri),
             Some(Heard::IdentityRequestOf { ri, tei }) => self.request_of(ri, tei),
             Some(Heard::IdentityVerify { tei }) => self.verify(tei),
@@ -259,7 +259,7 @@ impl Teis {
         ensures after { self.new ≡ after_offer self.old }
     {
         let message = self.queue.take()?;
-        Some(message.frame(side))
+        Some(messages::frame(message, side))
     }
 
     /// Whether a message waits to be sent.
@@ -274,7 +274,7 @@ impl Teis {
         ensures { result ≡ option_map type_of (slice_get self.now.waiting 0) }
     {
         let message = self.queue.first()?;
-        Some(message.kind())
+        Some(messages::kind(message))
     }
 
     /// How many octets are held: eight for each message that waits, three for each assignment that is remembered, and one while
@@ -315,11 +315,4 @@ impl Teis {
         self.due.put(place, false);
         place
     }
-}
-
-// The change of a TEI that was at this place.
-fn left(tei: u8, place: Option<usize>) -> Option<Change>
-    ensures { result ≡ option_map (left tei) place }
-{
-    Some(Change::Left { tei, place: place? })
 }

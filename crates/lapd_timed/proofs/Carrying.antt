@@ -11,8 +11,8 @@ use Rattle.lapd_clock.specs.OwnPlaces.{timers_in, with_timer, without_timer, IsE
 use Rattle.lapd_clock.proofs.OwnPlace.{started_in_place, stopped_in_place, stopped_nowhere}
 use Rattle.lapd_timed.proofs.OfCard.{holds_restarted}
 use Rattle.lapd_timed.proofs.OfCard.{its_place, line_place, found_place, link_running, runs_still, either_first, holds_started, holds_stopped, holds_line}
-use Rattle.lapd_tei.proofs.Tables.{place_of-is}
-use Rattle.lapd_tei.specs.Sound.{IsSoundTable}
+use Rattle.model_teis.proofs.Tables.{place_of-is}
+use Rattle.model_teis.specs.Table.{IsSoundTable}
 use Rattle.model_card.specs.Card.{Card, line_at}
 use Rattle.model_card.specs.Event.{Event}
 use Rattle.model_card.specs.Machine.{after}

@@ -13,7 +13,7 @@ use Rattle.lapd_clock.proofs.OwnPlace.{none_held}
 use Rattle.lapd_clock.proofs.Again.{itself}
 use Rattle.lapd_timed.proofs.OfCard.{holds_moved}
 use Rattle.lapd_clock.proofs.Standing.{runs}
-use Rattle.lapd_tei.proofs.Tables.{place_of-is}
+use Rattle.model_teis.proofs.Tables.{place_of-is}
 use Rattle.model_card.specs.Card.{Card, line_at}
 use Rattle.model_card.specs.Event.{Event}
 use Rattle.model_card.specs.Machine.{after}

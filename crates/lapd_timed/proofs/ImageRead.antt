@@ -15,7 +15,7 @@ use Rattle.lapd_image.specs.Numbers.{number}
 use Rattle.lapd_image.specs.Reads.{HasNone, IsReadAs}
 use Rattle.lapd_image.proofs.Reading.{all-read, equal-read, front-read, length-each, length-number}
 use Rattle.lapd_store.specs.Store.{Store}
-use Rattle.lapd_tei.specs.Machine.{Management}
+use Rattle.model_teis.specs.network.Machine.{Management}
 use Rattle.model_bits.specs.Bits.{number_of}
 use Rattle.model_card.specs.Card.{Card, line_at}
 use Rattle.model_card.specs.Sound.{IsSound}

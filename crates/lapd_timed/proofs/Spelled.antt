@@ -19,7 +19,7 @@ use Rattle.lapd_timed.specs.MomentsImage.{all_moments}
 use Rattle.lapd_timed.specs.OfCard.{AreApart}
 use Rattle.lapd_timed.proofs.InImage.{card-octets}
 use Rattle.lapd_timed.proofs.RunAs.{KnowPlaces, runs-here}
-use Rattle.lapd_tei.proofs.Tables.{place_of-is}
+use Rattle.model_teis.proofs.Tables.{place_of-is}
 use Rattle.model_card.specs.Card.{Card, line_at}
 use Rattle.model_card.specs.Reached.{IsReached}
 use Rattle.model_card.proofs.Reaching.{reached-sound}

@@ -6,7 +6,7 @@ use Rattle.std.specs.Option.{unwrap_or}
 use Rattle.std.specs.Prelude.{is_some}
 use Rattle.lapd_frame.specs.declared.services.Service.{Service}
 use Rattle.lapd_frame.specs.declared.services.Service.TheVariants.{Call, Packet}
-use Rattle.lapd_tei.proofs.Tables.{place_of-is}
+use Rattle.model_teis.proofs.Tables.{place_of-is}
 use Rattle.model_link.specs.Link.{state_number}
 use Rattle.model_line.specs.Line.{Line, place_in, place_at, tei_at, link_at, link_number, state_of}
 use Rattle.model_line.specs.Sound as line

@@ -20,7 +20,7 @@ use Rattle.lapd_frame.specs.declared.readings.Reading.{Reading}
 use Rattle.lapd_frame.specs.declared.refusals.Refusal.{Refusal}
 use Rattle.lapd_frame.specs.declared.senders.Sender.{Sender}
 use Rattle.lapd_frame.specs.declared.controls.Control.{Control}
-use Rattle.lapd_tei.proofs.Tables.{place_of-is}
+use Rattle.model_teis.proofs.Tables.{place_of-is}
 use Rattle.model_bits.specs.declared.heard.Cause.TheVariants as cause
 use Rattle.model_bits.specs.declared.heard.Cause.TheVariants.{Tei, Unserved}
 use Rattle.model_line.specs.Came.{came}

@@ -9,7 +9,7 @@ use Rattle.lapd_card.specs.declared.kinds.AnyCard.{AnyCard}
 use Rattle.lapd_count.specs.Image.{counters}
 use Rattle.lapd_image.specs.Reads.{HasNone, IsReadAs}
 use Rattle.lapd_image.proofs.Reading.{front-read, heads, tails}
-use Rattle.lapd_tei.proofs.ImageRead.{bits-read}
+use Rattle.model_teis.proofs.OfNetwork.ImageRead.{bits-read}
 use Rattle.model_card.specs.Card.{Card}
 use Rattle.model_card.specs.Sound.{IsSound}
 use Rattle.model_card.specs.declared.kinds.CardKind.{CardKind}

@@ -1,7 +1,7 @@
 -- What a configuration gives: the most frames that are to go.
 use Rattle.laws_line.proofs.Vocabulary.{◌≤◌, arith, Config, Line, sum_bounded, IsSound, frames_to_go, most_frames}
 use Rattle.laws_line.proofs.Vocabulary.{Bool, true, false, cond, ◌+◌, length, ap, is_terminal, terminal_in, IsOfSide, most_messages}
-use Rattle.lapd_terminal.proofs.SoundWords.{room}
+use Rattle.model_teis.proofs.OfTerminal.SoundWords.{room}
 use Rattle.model_line.proofs.LineRises.{window_most}
 
 -- Of messages that wait.

@@ -6,15 +6,15 @@ use Rattle.laws_line.proofs.Vocabulary.{is_some, Order, Follows, order_of, t201_
 use Rattle.lapd_frame.specs.declared.notes.Note.TheVariants as notes
 use Rattle.lapd_frame.specs.declared.timers.Order.TheVariants as orders
 use Rattle.lapd_frame.specs.declared.timers.Timer.TheVariants as timers
-use Rattle.lapd_terminal.specs.declared.outcome.T202Order.{T202Order}
-use Rattle.lapd_tei.specs.Events as teis
-use Rattle.lapd_tei.specs.Laws as tei_laws
-use Rattle.lapd_tei.proofs.LawLemmas as tei_lemmas
-use Rattle.lapd_terminal.specs.Events as terminals
-use Rattle.lapd_terminal.specs.Laws as terminal_laws
-use Rattle.lapd_terminal.specs.Sound as terminal
-use Rattle.lapd_terminal.specs.Words.{Course, begun}
-use Rattle.lapd_terminal.proofs.Served.{leads}
+use Rattle.model_teis.specs.declared.terminal.told.T202Order.{T202Order}
+use Rattle.model_teis.specs.network.Events as teis
+use Rattle.model_teis.specs.network.Laws as tei_laws
+use Rattle.model_teis.proofs.OfNetwork.LawLemmas as tei_lemmas
+use Rattle.model_teis.specs.terminal.Events as terminals
+use Rattle.model_teis.specs.terminal.Laws as terminal_laws
+use Rattle.model_teis.specs.terminal.Sound as terminal
+use Rattle.model_teis.specs.terminal.Words.{Course, begun}
+use Rattle.model_teis.proofs.OfTerminal.Served.{leads}
 use Rattle.model_line.proofs.Managed.{idle_course}
 use Rattle.laws_line.proofs.TeiNotes.{ByChange, noted}
 

@@ -1,9 +1,9 @@
 -- With calls for the next frame alone the frames to go become fewer, until nothing waits.
 use Rattle.laws_line.proofs.Vocabulary.{◌≡◌, ℕ, zero, suc, ◌+◌, ◌≤◌, ◌<◌, List, [], ◌∷◌, slice_get, Option, Some, None, is_some, refl, ap, ◌∙◌, ◌⊎◌, ⊎_elim, arith, IfSome, option_map_or, option_or, All-head, All-tail, nothing-to_send, Config, next, may_send, is_given, Line, link_count, Taken, link_taken, first_taken, taken, next_of, line_of, IsInRange, after_sound, next_falls, fresh_gives_nothing}
 use Rattle.laws_line.proofs.Vocabulary.{round_below, option_map, All, one, after, answer, IsSound, HasNothing, after_takes, frames_to_go, IsIdling}
-use Rattle.lapd_tei.specs.Events as teis
-use Rattle.lapd_tei.specs.Messages as messages
-use Rattle.lapd_terminal.specs.Events as terminals
+use Rattle.model_teis.specs.network.Events as teis
+use Rattle.model_teis.specs.network.Messages as messages
+use Rattle.model_teis.specs.terminal.Events as terminals
 use Rattle.laws_line.proofs.Vocabulary.{Bool, true, false, cond, HasNoMessage, Message, OwnMessage, own_frame_of, message_taken, is_terminal, terminal_in, with_message, with_own_message}
 use Rattle.laws_line.proofs.Serving.{none-waits}
 use Rattle.laws_line.proofs.Silence.{sends-none}

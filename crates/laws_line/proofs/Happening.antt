@@ -3,7 +3,8 @@ use Rattle.laws_line.proofs.Vocabulary.{◌≡◌, ℕ, ◌<◌, Bool, false, �
 use Rattle.laws_line.proofs.Vocabulary.{aim_of_expiry, Line}
 use Rattle.laws_line.proofs.Vocabulary.{link_number, service_at, place_at, tei_at, link_at, terms, link_count, unless_refused_told, aim_of_heard, Taken, taken, aim_of_request, IsProper, place_at-number, service_at-number, heard_proper, expiry_proper, request_proper, taken_walk, next_walk, at_no_link, eqb-true, option_map, fresh, Event, expiry, after, answer, unless_refused, refusal, IsSound}
 use Rattle.laws_line.proofs.Vocabulary.{IsMoved, IsBy, IsDeactivated, IsOf, link_cleared, link_offer, LinkEvent, link_after, TeiEvent, begin_here, begin_away}
-use Rattle.lapd_tei.specs.Laws as tei_laws
+use Rattle.model_teis.specs.Changes.{Moves}
+use Rattle.model_teis.specs.network.Laws as tei_laws
 use Rattle.laws_line.proofs.Vocabulary.{LineTold, Management, Own, TerminalEvent, IsOwnEvent, at_terminal}
 use Rattle.laws_line.proofs.Changes.{Turn, turned, turned-there}
 use Rattle.laws_line.proofs.Tied.{Ties, heard-ties, expiry-ties, request-ties}
@@ -76,7 +77,7 @@ module _ (c : Config) (l : Line) (s : IsSound c l) (number : ℕ) (few : number 
   -- a TEI comes to a place, or leaves it
   at-its-place : (m : Management) (o : Option Change) (place : ℕ)
       → is_change_at (place_at number) o ≡ (place == place_at number) → place < length l.management.places
-      → tei_laws.Moves l.management.places o m.places → (l' : Line)
+      → Moves l.management.places o m.places → (l' : Line)
       → l'.links ≡ set (set l.links (link_number place Call) fresh) (link_number place Packet) fresh
       → l'.management.places ≡ m.places → (b : Bool) → (place == place_at number) ≡ b → Goes l'
   at-its-place m o place at within moves l' ls ps b same = grind (arith, moved, begin_here, eqb-true, begin_away, eq-eqb)

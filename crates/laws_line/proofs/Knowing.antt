@@ -3,7 +3,8 @@ use Rattle.laws_line.proofs.Vocabulary.{◌≡◌, ℕ, ◌==◌, ◌&&◌, Bool
 use Rattle.laws_line.proofs.Vocabulary.{Moves, Management, IsAt, IsSoundTable, is_on, place_of, Change, Gained, Left, at-off, place_of-is, Config, hears, request, next, at_link, at_management, told_of_management, of_change, of_aim, at_timer, Line, link_number, service_at, place_at, place_in, link_at, link_in, terms, with_link, aim_of_heard, Taken, taken, line_of, with_unit, with_given_frame}
 use Rattle.laws_line.proofs.Vocabulary.{Request, Establish, Release, Assign, Remove, SetBusy, ClearBusy, Deactivate, at_requested, at_deactivated, aim_of_request, IsProper, heard_aims, request_proper, Down, eqb-true, T200, T203, fresh, LinkCourse as Course, begun, Event, expiry, after, answer, with_message, Data, Unit, Check, IsSound, up_by_note, taken_for_up, is_up_of, link_offer, link_received}
 use Rattle.laws_line.proofs.Vocabulary.{LinkEstablish, LinkRelease, link_expired, LinkClearBusy, link_requested, LinkRequest, LinkData, link_cleared, LinkSetBusy, LinkEvent, link_told, link_after, StreamEvent, message, tei_told, check, disown, tei_after, remove, assigning, tei_expiry, TeiEvent, Disown}
-use Rattle.lapd_tei.specs.Laws as tei_laws
+use Rattle.model_teis.specs.Changes.{HasJoined, HasLeft}
+use Rattle.model_teis.specs.network.Laws as tei_laws
 use Rattle.model_line.proofs.Following.{some-same, and-false}
 use Rattle.model_line.proofs.LinkMoves.{IsOne, taken-one}
 use Rattle.laws_line.proofs.Noting.{own-notes, other-notes}
@@ -66,7 +67,7 @@ module _ (c : Config) (l : Line) (s : IsSound c l) (t : LineTold) (m : Managemen
   abbrev changed : Option Change → Line
   changed o = (of_change c o t (record l { management = m; own = own })).line
 
-  comes-up : (tei place : ℕ) → tei_laws.HasJoined l.management.places m.places tei place → (s' : Service) (n' : ℕ) (b : Bool) → (tei == n') ≡ b
+  comes-up : (tei place : ℕ) → HasJoined l.management.places m.places tei place → (s' : Service) (n' : ℕ) (b : Bool) → (tei == n') ≡ b
       → is_up_of s' n' l ≡ is_up_of s' n' (changed (Some (Gained tei place)))
   comes-up tei place joined s' n' true same =
       let n : tei ≡ n' = eqb-true tei n' same in
@@ -76,7 +77,7 @@ module _ (c : Config) (l : Line) (s : IsSound c l) (t : LineTold) (m : Managemen
       sym (read.elsewhere false is_up refl c l s m sound place (Some tei) joined.is_there joined.within s' n' (λ same. true≢false (sym (eq-eqb tei n' (some-same tei n' same)) ∙ other))
       (λ at. none-some n' (sym joined.was_free ∙ at)))
 
-  module _ (tei place : ℕ) (gone : tei_laws.HasLeft l.management.places m.places tei place) where
+  module _ (tei place : ℕ) (gone : HasLeft l.management.places m.places tei place) where
     abbrev first : Link
     first = link_in l Call place
 

@@ -3,13 +3,14 @@ use Rattle.laws_line.proofs.Vocabulary.{◌≡◌, ◌≢◌, ◌⊎◌, inl, in
 use Rattle.laws_line.proofs.Vocabulary.{request, next, told, nothing, at_timer, aim_of_expiry, Line, UnitData, link_number, link_count, place_at, tei_at, place_in, link_at, unless_refused_told, aim_of_heard, Request, Establish, Release, Assign, Remove, SetBusy, ClearBusy, Deactivate, at_requested, at_deactivated, aim_of_request, IsProper, heard_proper, expiry_proper, request_proper, Down}
 use Rattle.laws_line.proofs.Vocabulary.{eqb-true, T200, T203, fresh, Event, expiry, after, answer, unless_refused, refusal, Data, Check, IsSound, noted_behind, IsManaged, IsGranted, IsOfPart, line_of_link as of_link, line_of_management as of_management, of_units, of_group, of_down, of_next, SaysNothing, IsOneEvent, is_granted, BringsMessage, IsOfManagement, GivesUp, link_received, LinkEstablish}
 use Rattle.laws_line.proofs.Vocabulary.{LinkRelease, link_expired, LinkClearBusy, link_requested, LinkRequest, LinkData, link_cleared, LinkSetBusy, LinkEvent, StreamEvent, begin_here, begin_away, Disown}
-use Rattle.lapd_tei.specs.Events as teis
-use Rattle.lapd_tei.specs.Laws as tei_laws
-use Rattle.lapd_tei.proofs.LawLemmas as tei_lemmas
-use Rattle.lapd_terminal.specs.Events as terminals
-use Rattle.lapd_terminal.specs.Laws as terminal_laws
-use Rattle.lapd_terminal.specs.Words.{Course}
-use Rattle.lapd_terminal.proofs.Served.{leads}
+use Rattle.model_teis.specs.network.Events as teis
+use Rattle.model_teis.specs.Changes.{Moves}
+use Rattle.model_teis.specs.network.Laws as tei_laws
+use Rattle.model_teis.proofs.OfNetwork.LawLemmas as tei_lemmas
+use Rattle.model_teis.specs.terminal.Events as terminals
+use Rattle.model_teis.specs.terminal.Laws as terminal_laws
+use Rattle.model_teis.specs.terminal.Words.{Course}
+use Rattle.model_teis.proofs.OfTerminal.Served.{leads}
 use Rattle.laws_line.proofs.Vocabulary.{Bool, cond, le-leb, ◌&&◌, ◌∙◌, Ok, Unserved, User, Network, Side, Control, Parts, reading, heard_side, addressed, message_of, aim_of_reading, at_side, link_frame, stream_frame, dropped, at_none, at_terminal, at_a_terminal, of_network, of_terminal as effect_of_terminal, of_terminal_if, told_of_terminal, Effect, LineTold, Own, Management, is_terminal}
 use Rattle.laws_line.proofs.Vocabulary.{terminal_in}
 use Rattle.laws_line.proofs.Vocabulary.{with_terminal, IsOfSide, ServesMessages, IsOfTerminal, IsManagedThere, line_of_terminal as of_terminal, T202, AskTei, VerifyTei}
@@ -24,7 +25,7 @@ use Rattle.laws_line.proofs.Told.{moved}
 use Rattle.model_line.proofs.Downs.{by-down}
 use Rattle.laws_line.specs.Frames.{given_up_in}
 use Rattle.laws_line.specs.OneEvent.{given_up_behind}
-use Rattle.lapd_tei.specs.declared.outcome.Change.TheVariants.{Gained, Left}
+use Rattle.model_teis.specs.declared.changes.Change.TheVariants.{Gained, Left}
 
 -- A step of TEI management, of whatever side.
 module _ (c : Config) (l : Line) (s : IsSound c l) (own_told : LineTold) (m : Management) (own : Own) where
@@ -41,12 +42,12 @@ module _ (c : Config) (l : Line) (s : IsSound c l) (own_told : LineTold) (m : Ma
 
   -- at the place of a TEI that comes or leaves, and elsewhere
   module _ (o : Option Change) (place : ℕ) (x : Option ℕ) (at : (number : ℕ) → is_change_at (place_at number) o ≡ (place == place_at number))
-      (moves : tei_laws.Moves l.management.places o places) (within : place < length l.management.places) (is : places ≡ set l.management.places place x)
+      (moves : Moves l.management.places o places) (within : place < length l.management.places) (is : places ≡ set l.management.places place x)
       (links-are : (there o).links ≡ set (set l.links (link_number place Call) fresh) (link_number place Packet) fresh) where
     of-places : Links o
     of-places number few = grind (arith, moved, begin_here, eqb-true, eq-eqb, begin_away, get_or-set_other)
 
-  pub of-links : (o : Option Change) → tei_laws.Moves l.management.places o places → Links o
+  pub of-links : (o : Option Change) → Moves l.management.places o places → Links o
   of-links o moves = grind (arith, of-places)
 
   pub line-is : (o : Option Change) → there o ≡ record l { management = m; own = own; links = (there o).links }

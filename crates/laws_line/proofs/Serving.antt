@@ -4,9 +4,9 @@ use Rattle.laws_line.proofs.Vocabulary.{none-some, Service, Timer, LinkTimer, Li
 use Rattle.laws_line.proofs.Vocabulary.{with_link, Taken, with_given_frame, link_taken, first_taken, round, taken, IsSoundAt, round_below, at_no_link, option_map, All, fresh, Event, after, answer, IsSound, IsSilentAt, IsItsTurn, IsOfLink, IsOwed, HasNothing, contents_of_link, IsServed, unit_asked, units_behind, UnitsWait, TurnStays, LinkRequest, link_offer, link_given, link_after, StreamEvent}
 use Rattle.model_link.specs.Sound as link_sound
 use Rattle.laws_line.proofs.Silence.{silent}
-use Rattle.lapd_tei.specs.Events as teis
-use Rattle.lapd_tei.specs.Messages as messages
-use Rattle.lapd_terminal.specs.Events as terminals
+use Rattle.model_teis.specs.network.Events as teis
+use Rattle.model_teis.specs.network.Messages as messages
+use Rattle.model_teis.specs.terminal.Events as terminals
 use Rattle.laws_line.proofs.Vocabulary.{inl, inr, expiry, Bool, true, HasNoMessage, IsOfSide, IsUnused, Message, OwnMessage, own_frame_of, is_terminal, terminal_in, unit_taken, with_message, with_own_message, at_management, at_terminal, TeiEvent, TerminalEvent, Change, LineTold, of_aim, of_change, of_management, of_network, of_terminal, of_terminal_if, at_a_terminal, told_of_management}
 use Rattle.laws_line.proofs.Vocabulary.{told_of_terminal, tei_told, tei_after, terminal_told, terminal_after, with_terminal, without_units, down, AskTei, VerifyTei}
 use Rattle.laws_line.proofs.Among.{by-aim}

@@ -6,7 +6,7 @@ use Rattle.model_link.specs.Sound as link_sound
 use Rattle.laws_link.proofs.Once as link_once
 use Rattle.laws_line.proofs.Vocabulary.{ap, T201, T202, AskTei, VerifyTei, Management, Own, Effect, LineTold, IsProper, IsOwnEvent, request_proper, at_terminal, TerminalEvent, asking, verifying, terminal_expiry, tei_expiry}
 use Rattle.laws_line.proofs.Changes.{AreOfTeis, IsOfTeis, Turn, turned, turned-there}
-use Rattle.lapd_tei.specs.Laws as tei_laws
+use Rattle.model_teis.specs.network.Laws as tei_laws
 use Rattle.model_line.proofs.Downs.{by-down}
 
 -- Notes of contents are those of data and those of unit data.

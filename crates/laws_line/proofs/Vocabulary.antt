@@ -61,32 +61,35 @@ pub use Rattle.model_link.specs.declared.frames.ControlFrame.{ControlFrame}
 pub use Rattle.model_link.specs.declared.states.State.{State}
 pub use Rattle.model_link.specs.declared.terms.Terms.{Terms}
 pub use Rattle.model_link.specs.declared.timers.LinkTimer.{LinkTimer}
-pub use Rattle.lapd_tei.proofs.Brief.{IsBrief, told_brief}
-pub use Rattle.lapd_tei.proofs.Followed.{expired_t201_follows, t201_follows}
-pub use Rattle.lapd_tei.proofs.Tables.{at-off, at-within, is_on-at, not_not, place_of-is}
-pub use Rattle.lapd_tei.specs.Events.{Event as TeiEvent, assign as assigning, check, disown, down, expiry as tei_expiry, message, refusal_if, remove, unless_refused as tei_unless_refused, after as tei_after, told as tei_told}
-unfoldable pub use Rattle.lapd_tei.specs.Events.{course, refusal as tei_refusal}
-pub use Rattle.lapd_tei.specs.Laws.{Follows, Moves, stop_of}
-pub use Rattle.lapd_tei.specs.Machine.{Management, next_checked}
-pub use Rattle.lapd_tei.specs.Messages.{frame_of, heard_in, heard_of_type, responses_in}
-pub use Rattle.lapd_tei.specs.Rows.{answer_request, ask_once, asks_for, assign, assign_new, assigns_for, count, counted as tei_counted, doubled, expire_check, expire_period, is_among, is_checked, is_unanswered, join_at, put_on, remembered_in, removed, request as tei_request, request_anew, request_of, respond, respond_among, responses, serve, take_off, verify, verify_beside, verify_later}
-pub use Rattle.lapd_tei.specs.Sound.{IsAt, IsSound as TeiIsSound, IsSoundCheck, IsSoundTable}
-pub use Rattle.lapd_tei.specs.Table.{Places, free_place, free_tei, is_on, place_of}
-pub use Rattle.lapd_tei.specs.Words.{Course, Step, begin_check, begin_next, begun as tei_begun, check_is, check_is_due, check_next, end_check, leave, left, lose_one, no_room, note as tei_note, nothing_happens, read_as as tei_read_as, send, stop_check, unserved}
-pub use Rattle.lapd_tei.specs.declared.check.Period.{Period}
-pub use Rattle.lapd_tei.specs.declared.check.Period.TheVariants.{First, Second}
-pub use Rattle.lapd_tei.specs.declared.messages.Message.{Message}
-pub use Rattle.lapd_tei.specs.declared.messages.Message.TheVariants.{IdentityCheckRequest, IdentityDenied, IdentityRemove}
-pub use Rattle.lapd_tei.specs.declared.outcome.Change.{Change}
-pub use Rattle.lapd_tei.specs.declared.outcome.Change.TheVariants.{Gained, Left}
-pub use Rattle.lapd_tei.proofs.GivenUp.{down_gives_up}
-pub use Rattle.lapd_tei.specs.declared.check.Check.{Check as TeiCheck}
-pub use Rattle.lapd_terminal.specs.Events.{Event as TerminalEvent, after as terminal_after, ask as asking, assign as terminal_assign, down as terminal_down, expiry as terminal_expiry, message as terminal_message, remove as terminal_remove, told as terminal_told, verify as verifying}
-unfoldable pub use Rattle.lapd_terminal.specs.Events.{course as terminal_course}
-pub use Rattle.lapd_terminal.specs.Machine.{Terminal, TerminalTold}
-pub use Rattle.lapd_terminal.specs.declared.messages.Message.{Message as OwnMessage}
-pub use Rattle.lapd_terminal.specs.declared.outcome.News.{News as TerminalNews}
-pub use Rattle.lapd_terminal.specs.Messages.{frame_of as own_frame_of}
+pub use Rattle.model_teis.proofs.OfNetwork.Brief.{IsBrief, told_brief}
+pub use Rattle.model_teis.proofs.OfNetwork.Followed.{expired_t201_follows, t201_follows}
+pub use Rattle.model_teis.proofs.Tables.{at-off, at-within, is_on-at, not_not, place_of-is}
+pub use Rattle.model_teis.specs.Refused.{refusal_if}
+pub use Rattle.model_teis.specs.network.Events.{Event as TeiEvent, assign as assigning, check, disown, down, expiry as tei_expiry, message, remove, unless_refused as tei_unless_refused, after as tei_after, told as tei_told}
+unfoldable pub use Rattle.model_teis.specs.network.Events.{course, refusal as tei_refusal}
+pub use Rattle.model_teis.specs.Changes.{Moves, left}
+pub use Rattle.model_teis.specs.network.Laws.{Follows, stop_of}
+pub use Rattle.model_teis.specs.network.Machine.{Management, next_checked}
+pub use Rattle.model_teis.specs.network.Messages.{frame_of, heard_in, heard_of_type, responses_in}
+pub use Rattle.model_teis.specs.network.Rows.{answer_request, ask_once, asks_for, assign, assign_new, assigns_for, count, counted as tei_counted, doubled, expire_check, expire_period, is_among, is_checked, is_unanswered, join_at, put_on, remembered_in, removed, request as tei_request, request_anew, request_of, respond, respond_among, responses, serve, take_off, verify, verify_beside, verify_later}
+pub use Rattle.model_teis.specs.Table.{IsAt, IsSoundTable, Places, free_place, free_tei, is_on, place_of}
+pub use Rattle.model_teis.specs.network.Sound.{IsSound as TeiIsSound, IsSoundCheck}
+pub use Rattle.model_teis.specs.Steps.{nothing_happens}
+pub use Rattle.model_teis.specs.network.Words.{Course, Step, begin_check, begin_next, begun as tei_begun, check_is, check_is_due, check_next, end_check, leave, lose_one, no_room, note as tei_note, read_as as tei_read_as, send, stop_check, unserved}
+pub use Rattle.model_teis.specs.declared.network.check.Period.{Period}
+pub use Rattle.model_teis.specs.declared.network.check.Period.TheVariants.{First, Second}
+pub use Rattle.model_teis.specs.declared.network.messages.Message.{Message}
+pub use Rattle.model_teis.specs.declared.network.messages.Message.TheVariants.{IdentityCheckRequest, IdentityDenied, IdentityRemove}
+pub use Rattle.model_teis.specs.declared.changes.Change.{Change}
+pub use Rattle.model_teis.specs.declared.changes.Change.TheVariants.{Gained, Left}
+pub use Rattle.model_teis.proofs.OfNetwork.GivenUp.{down_gives_up}
+pub use Rattle.model_teis.specs.declared.network.check.Check.{Check as TeiCheck}
+pub use Rattle.model_teis.specs.terminal.Events.{Event as TerminalEvent, after as terminal_after, ask as asking, assign as terminal_assign, down as terminal_down, expiry as terminal_expiry, message as terminal_message, remove as terminal_remove, told as terminal_told, verify as verifying}
+unfoldable pub use Rattle.model_teis.specs.terminal.Events.{course as terminal_course}
+pub use Rattle.model_teis.specs.terminal.Machine.{Terminal, TerminalTold}
+pub use Rattle.model_teis.specs.declared.terminal.messages.Message.{Message as OwnMessage}
+pub use Rattle.model_teis.specs.declared.terminal.told.News.{News as TerminalNews}
+pub use Rattle.model_teis.specs.terminal.Messages.{frame_of as own_frame_of}
 pub use Rattle.model_line.proofs.AimsSound.{IsProper}
 pub use Rattle.model_line.proofs.Managed.{IsAsked, IsOwnEvent, by-managed, by-own-event}
 pub use Rattle.model_line.proofs.Outgoing.{GoesOut, message_walk, without_message}

@@ -1,7 +1,7 @@
 -- A line goes down (Q.921 annex B, persistent deactivation): what waits on it and is of no link is given up.
 use Rattle.std.specs.Prelude.{◌≡◌, ◌++◌, false, length, replicate, option_map, option_to_list, [], None}
-use Rattle.lapd_tei.specs.Laws.{stop_of}
-use Rattle.lapd_terminal.specs.Words as terminals
+use Rattle.model_teis.specs.network.Laws.{stop_of}
+use Rattle.model_teis.specs.terminal.Words as terminals
 use Rattle.model_line.specs.Effect.{order_of}
 use Rattle.model_line.specs.Event.{Answer, told, nothing}
 use Rattle.model_line.specs.Line.{Line}

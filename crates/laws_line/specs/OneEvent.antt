@@ -4,10 +4,10 @@ use Rattle.lapd_frame.specs.declared.notes.Note.{Note}
 use Rattle.lapd_frame.specs.declared.services.Service.{Service}
 use Rattle.lapd_frame.specs.declared.services.Service.TheVariants.{Call, Packet}
 use Rattle.lapd_frame.specs.Grammar.{Parts}
-use Rattle.lapd_tei.specs.Events as teis
-use Rattle.lapd_terminal.specs.Events as terminals
-use Rattle.lapd_tei.specs.declared.outcome.Change.{Change}
-use Rattle.lapd_tei.specs.declared.outcome.Change.TheVariants.{Left}
+use Rattle.model_teis.specs.network.Events as teis
+use Rattle.model_teis.specs.terminal.Events as terminals
+use Rattle.model_teis.specs.declared.changes.Change.{Change}
+use Rattle.model_teis.specs.declared.changes.Change.TheVariants.{Left}
 use Rattle.model_link.specs.Events as link
 use Rattle.model_link.specs.Link.{fresh}
 use Rattle.model_link.specs.Machine as links

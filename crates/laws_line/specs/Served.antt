@@ -11,10 +11,10 @@ use Rattle.model_link.specs.Link.{Link}
 use Rattle.model_link.specs.Sound.{is_information}
 use Rattle.laws_link.specs.InOrder.{IsInOrder}
 use Rattle.laws_link.specs.Sending.{MayGo}
-use Rattle.lapd_tei.specs.declared.messages.Message.{Message}
-use Rattle.lapd_tei.specs.Messages.{frame_of}
-use Rattle.lapd_terminal.specs.declared.messages.Message as own
-use Rattle.lapd_terminal.specs.Messages as own_messages
+use Rattle.model_teis.specs.declared.network.messages.Message.{Message}
+use Rattle.model_teis.specs.network.Messages.{frame_of}
+use Rattle.model_teis.specs.declared.terminal.messages.Message as own
+use Rattle.model_teis.specs.terminal.Messages as own_messages
 use Rattle.model_line.specs.declared.config.Config.{Config}
 use Rattle.model_line.specs.Line.{Line, is_terminal, UnitData, link_count, service_at, place_at, tei_at, terms, link_at, with_link}
 use Rattle.model_line.specs.Machine.{after}

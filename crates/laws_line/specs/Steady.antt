@@ -13,8 +13,8 @@ use Rattle.lapd_frame.specs.Services.{service_of}
 use Rattle.model_link.specs.declared.timers.LinkTimer.{LinkTimer}
 use Rattle.model_link.specs.declared.timers.LinkTimer.TheVariants.{T200, T203}
 use Rattle.model_link.specs.Events as link
-use Rattle.lapd_tei.specs.Events as teis
-use Rattle.lapd_terminal.specs.Events as terminals
+use Rattle.model_teis.specs.network.Events as teis
+use Rattle.model_teis.specs.terminal.Events as terminals
 use Rattle.model_line.specs.declared.config.Config.{Config}
 use Rattle.model_line.specs.Event.{Event, hears, expiry, request, next, Answer}
 use Rattle.model_line.specs.Heard.{heard_side}

@@ -1,7 +1,7 @@
 -- Worked values: a control frame that waits while other events of its line are between the calls for the next frame.
 use Rattle.std.specs.Prelude.{◌≡◌, List, [], ◌∷◌, replicate, refl}
 use Rattle.laws_line.specs.WorkedWords.{bits_dropped as dropped, Fcs, Call, exchanged, read_by, reading, header_of, control_of, unnumbered_of, supervisory_of, seq, distance_of, named, LineEvent as Event, hears, request, next, after, frames_before}
-use Rattle.lapd_tei.specs.Events as teis
+use Rattle.model_teis.specs.network.Events as teis
 use Rattle.model_line.specs.Request
 use Rattle.laws_line.specs.WorkedPolled.{small, asked}
 

@@ -1,7 +1,7 @@
 -- Worked values: a line goes down.
 use Rattle.std.specs.Prelude.{◌≡◌, [], ◌∷◌, map, refl}
 use Rattle.laws_line.specs.WorkedWords.{ap, Call, Packet, Stop, T201, exchanged, read_by, reading, header_of, control_of, unnumbered_of, request, told, nothing, orders_in, Line, fresh_line, after, answer, Assign, Check, Unit, Deactivate, Down, after_events, GivesUp, HasNothing}
-use Rattle.lapd_tei.specs.Events as teis
+use Rattle.model_teis.specs.network.Events as teis
 use Rattle.laws_line.specs.Worked.{usual, both_up}
 use Rattle.laws_line.specs.WorkedServed.{asked}
 

@@ -1,7 +1,7 @@
 -- Worked values: what calls for the next frame alone come to.
 use Rattle.std.specs.Prelude.{◌≡◌, [], ◌∷◌, length, refl}
 use Rattle.laws_line.specs.WorkedWords.{exchanged, read_by, reading, header_of, control_of, unnumbered_of, supervisory_of, seq, distance_of, named, Line, fresh_line, link_at, of_request, Assign, frames_to_go, way_round, frames_before, most_frames, most_frames_before}
-use Rattle.lapd_tei.specs.Events as teis
+use Rattle.model_teis.specs.network.Events as teis
 use Rattle.laws_line.specs.Worked.{usual, heard}
 
 -- At most 200 frames are to go on a line, for which as many calls are enough.

@@ -2,7 +2,7 @@
 use Rattle.std.specs.Prelude.{[], ◌≡◌, true, false, ◌∷◌, Some, None, refl}
 use Rattle.laws_line.specs.WorkedWords.{list_any, Fcs, Information, Call, Packet, Parts, exchanged, read_by, reading, header_of, control_of, unnumbered_of, seq, distance_of, named, LineEvent as Event, Answer, hears, told, dropped, state_in, after, answer, contents_in, is_data_of, is_unit_of, notes_of, IsNotedOnce}
 use Rattle.model_bits.specs.Stream as stream
-use Rattle.lapd_tei.specs.Events as teis
+use Rattle.model_teis.specs.network.Events as teis
 use Rattle.laws_line.specs.Worked.{usual, both_up}
 
 -- TEI 64 is on the line, its links are up, and an I-frame of its call control link is heard.

@@ -4,7 +4,7 @@ use Rattle.laws_line.specs.WorkedWords.{Sapi, Tei, BadTei, NoLink, WrongState, T
 use Rattle.model_bits.specs.Stream as stream
 use Rattle.lapd_frame.specs.declared.notes.Note.TheVariants as notes
 use Rattle.lapd_frame.specs.declared.notes.ErrorCode.TheVariants as code
-use Rattle.lapd_tei.specs.Events as teis
+use Rattle.model_teis.specs.network.Events as teis
 use Rattle.laws_line.specs.Worked.{usual, heard}
 use Rattle.laws_line.specs.WorkedServed.{asked, with_64}
 

@@ -3,7 +3,7 @@ use Rattle.std.specs.Prelude.{◌≡◌, true, false, [], ◌∷◌, Some, refl}
 use Rattle.laws_line.specs.WorkedWords.{ReceiveReady, ReceiveNotReady, Sabme, Ua, Call, exchanged, read_by, reading, header_of, control_of, unnumbered_of, supervisory_of, state_after, waiting_left, TeiAssigned, AwaitingEstablishment, Established, LinkT200 as T200, received, undefined, link_overlong as overlong, command, response, distance_of, named, seq, link_fresh as fresh, Line, fresh_line}
 use Rattle.laws_line.specs.WorkedWords.{has_tei, link_at, terms}
 use Rattle.laws_line.specs.WorkedWords.{after, Establish, Data, Assign, SetBusy, Deactivate}
-use Rattle.lapd_tei.specs.Events as teis
+use Rattle.model_teis.specs.network.Events as teis
 use Rattle.laws_line.specs.Worked.{usual, both_up, heard}
 use Rattle.laws_line.specs.WorkedServed.{asked, taken_from}
 

@@ -2,7 +2,7 @@
 use Rattle.std.specs.Prelude.{◌≡◌, ℕ, true, false, List, [], ◌∷◌, refl}
 use Rattle.laws_line.specs.WorkedWords.{T201, exchanged, read_by, reading, header_of, control_of, unnumbered_of, Message, IdentityAssigned, IdentityDenied, IdentityCheckRequest, IdentityRemove, Config, LineEvent as Event, hears, expiry, Line, fresh_line, has_tei, after, answer, Assign, Check, lost_in}
 use Rattle.model_bits.specs.Stream as stream
-use Rattle.lapd_tei.specs.Events as teis
+use Rattle.model_teis.specs.network.Events as teis
 use Rattle.laws_line.specs.Worked.{usual, heard}
 use Rattle.laws_line.specs.WorkedServed.{asked}
 

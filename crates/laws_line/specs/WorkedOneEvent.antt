@@ -1,7 +1,7 @@
 -- Worked values: events of one part of a line, which leave all else as it was.
 use Rattle.std.specs.Prelude.{◌≡◌, [], ◌∷◌, Some, refl}
 use Rattle.laws_line.specs.WorkedWords.{ap, arith, Fcs, ReleaseIndication, Call, Packet, exchanged, read_by, reading, header_of, control_of, unnumbered_of, distance_of, named, seq, Left, received, link_frame as frame, link_fresh as fresh, LineTold, request, told, dropped, nothing, link_at, link_in, with_link, terms, after, Unit, Remove, noted_behind, SaysNothing}
-use Rattle.lapd_tei.specs.Events as teis
+use Rattle.model_teis.specs.network.Events as teis
 use Rattle.model_link.specs.Machine as links
 use Rattle.laws_line.specs.Worked.{usual, both_up}
 use Rattle.laws_line.specs.WorkedHeard.{i_frame, information}

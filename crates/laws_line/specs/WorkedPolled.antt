@@ -3,7 +3,7 @@
 use Rattle.std.specs.Prelude.{◌≡◌, ℕ, true, List, [], ◌∷◌, length, Some, None, refl}
 use Rattle.laws_line.specs.WorkedWords.{ReceiveReady, Ua, Call, Parts, exchanged, read_by, reading, header_of, control_of, unnumbered_of, supervisory_of, seq, distance_of, named, Link, is_multiple_frame, response, Config, hears, request, first_fault, sapi_fault, Line, fresh_line, place_in, tei_at, link_in, after, Assign, frames_to_go, most_frames, most_frames_before}
 use Rattle.model_bits.specs.Stream as stream
-use Rattle.lapd_tei.specs.Events as teis
+use Rattle.model_teis.specs.network.Events as teis
 use Rattle.model_line.specs.Usual.{least}
 
 -- One terminal, and room for two control frames.

@@ -5,7 +5,7 @@ use Rattle.model_bits.specs.Stream as stream
 use Rattle.lapd_frame.specs.declared.notes.Note.TheVariants as notes
 use Rattle.lapd_frame.specs.declared.notes.ErrorCode.TheVariants as code
 use Rattle.lapd_frame.specs.declared.readings.Reading.TheVariants.{AnnexB}
-use Rattle.lapd_tei.specs.Events as teis
+use Rattle.model_teis.specs.network.Events as teis
 use Rattle.model_line.specs.Counts.{may_send}
 use Rattle.model_line.specs.Stored.{held_in}
 use Rattle.laws_line.specs.Worked.{usual}

@@ -2,7 +2,7 @@
 use Rattle.std.specs.Prelude.{[], ◌≡◌, true, length, Some, refl}
 use Rattle.laws_line.specs.WorkedWords.{Sabme, Parts, exchanged, read_by, reading, header_of, control_of, unnumbered_of, supervisory_of, seq, distance_of, named, hears, request, Line, fresh_line, place_in, after, Assign, frames_to_go}
 use Rattle.model_bits.specs.Stream as stream
-use Rattle.lapd_tei.specs.Events as teis
+use Rattle.model_teis.specs.network.Events as teis
 use Rattle.laws_line.specs.WorkedPolled.{small, sabme_octets, call_link}
 
 -- TEI 64 comes on the line, and then SABME with P=1 of the call control link.

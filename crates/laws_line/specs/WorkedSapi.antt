@@ -2,7 +2,7 @@
 use Rattle.std.specs.Prelude.{◌≡◌, ℕ, List, [], ◌∷◌, Option, Some, None, option_map, refl}
 use Rattle.laws_line.specs.WorkedWords.{Sapi, Packet, exchanged, read_by, reading, header_of, control_of, unnumbered_of, Config, first_fault, sapi_fault, Line, fresh_line, of_aim, of_request, aim_of_heard, Taken, taken, Assign, Unit, Request}
 use Rattle.model_bits.specs.Stream as stream
-use Rattle.lapd_tei.specs.Events as teis
+use Rattle.model_teis.specs.network.Events as teis
 use Rattle.model_line.specs.Heard.{drop_for}
 use Rattle.model_line.specs.declared.config.Field.TheVariants as field
 use Rattle.laws_line.specs.Worked.{usual}

@@ -1,7 +1,7 @@
 -- Worked values: what calls for the next frame take.
 use Rattle.std.specs.Prelude.{◌≡◌, ℕ, zero, suc, List, [], ◌∷◌, Option, Some, None, option_map, refl}
 use Rattle.laws_line.specs.WorkedWords.{Call, Packet, Order, Start, Stop, T200, T203, exchanged, read_by, reading, header_of, control_of, unnumbered_of, seq, next, orders_in, Line, fresh_line, of_request, after, answer, Taken, taken, Request, Assign, Data, Unit, Check}
-use Rattle.lapd_tei.specs.Events as teis
+use Rattle.model_teis.specs.network.Events as teis
 use Rattle.laws_line.specs.Worked.{usual, both_up, heard}
 
 abbrev pub asked : Request → Line → Line

@@ -3,7 +3,7 @@ use Rattle.std.specs.Prelude.{◌≡◌, ℕ, false, List, [], ◌∷◌, replic
 use Rattle.laws_line.specs.WorkedWords.{Tei, Unserved, User, BadTei, WrongSide, Call, Packet, Start, Stop, T200, T203, exchanged, read_by, reading, header_of, control_of, unnumbered_of, Config, nothing, dropped, Request, Establish, Unit, Assign, Remove, Check, Disown, Line, fresh_line, state_of, Effect, of_aim, aim_of_heard, refusal, of_request, Taken, taken}
 use Rattle.model_bits.specs.Stream as stream
 use Rattle.lapd_frame.specs.declared.notes.Note.TheVariants as notes
-use Rattle.lapd_tei.specs.Events as teis
+use Rattle.model_teis.specs.network.Events as teis
 use Rattle.laws_line.specs.Worked.{usual}
 
 -- the private exchange's end of a trunk

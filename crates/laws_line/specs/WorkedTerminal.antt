@@ -11,8 +11,8 @@ use Rattle.lapd_frame.specs.declared.timers.Timer.TheVariants.{T200, T202}
 use Rattle.model_bits.specs.Stream as stream
 unfoldable use Rattle.lapd_frame.specs.Reading.{reading, header_of, control_of, unnumbered_of}
 unfoldable use Rattle.lapd_frame.specs.Senders.{exchanged, reading as read_by}
-use Rattle.lapd_tei.specs.Events as teis
-use Rattle.lapd_terminal.specs.Events as terminals
+use Rattle.model_teis.specs.network.Events as teis
+use Rattle.model_teis.specs.terminal.Events as terminals
 use Rattle.model_line.specs.declared.config.Config.{Config}
 use Rattle.model_line.specs.Event.{Event, hears, expiry, request, next, Answer, told, refused, gave, NextFrame}
 use Rattle.model_line.specs.Request.{AskTei, VerifyTei, Check, Establish, Remove}

@@ -21,9 +21,9 @@ pub use Rattle.model_link.specs.Link.{Link, fresh as link_fresh, is_multiple_fra
 pub use Rattle.model_link.specs.Words.{command, response}
 pub use Rattle.model_link.specs.declared.states.State.TheVariants.{AwaitingEstablishment, Established, TeiAssigned}
 pub use Rattle.model_link.specs.declared.timers.LinkTimer.TheVariants.{T200 as LinkT200}
-pub use Rattle.lapd_tei.specs.declared.messages.Message.{Message}
-pub use Rattle.lapd_tei.specs.declared.messages.Message.TheVariants.{IdentityAssigned, IdentityCheckRequest, IdentityDenied, IdentityRemove}
-pub use Rattle.lapd_tei.specs.declared.outcome.Change.TheVariants.{Left}
+pub use Rattle.model_teis.specs.declared.network.messages.Message.{Message}
+pub use Rattle.model_teis.specs.declared.network.messages.Message.TheVariants.{IdentityAssigned, IdentityCheckRequest, IdentityDenied, IdentityRemove}
+pub use Rattle.model_teis.specs.declared.changes.Change.TheVariants.{Left}
 pub use Rattle.model_line.specs.Came.{came}
 pub use Rattle.model_line.specs.Config.{first_fault}
 unfoldable pub use Rattle.model_line.specs.Config.{sapi_fault}

@@ -16,7 +16,7 @@ pub use Rattle.lapd_frame.specs.declared.faults.ReadFault.{ReadFault}
 pub use Rattle.lapd_frame.specs.declared.notes.ErrorCode.TheVariants.{H}
 pub use Rattle.lapd_frame.specs.declared.notes.Note.TheVariants.{Assigned as NoteAssigned, Data as NoteData, Doubled as NoteDoubled, Error as NoteError, EstablishConfirm as NoteEstablishConfirm, EstablishIndication as NoteEstablishIndication, ReleaseConfirm as NoteReleaseConfirm, ReleaseIndication as NoteReleaseIndication, Removed as NoteRemoved, Unit as NoteUnit, Xid as NoteXid}
 pub use Rattle.lapd_seq.proofs.Callers.{is_seq}
-pub use Rattle.lapd_tei.specs.Messages.{information_of}
+pub use Rattle.model_teis.specs.network.Messages.{information_of}
 pub use Rattle.laws_line.proofs.Granting.{not-refused}
 pub use Rattle.laws_line.proofs.Hearing.{same-sapi, sapi-is}
 pub use Rattle.laws_line.proofs.Knowing.{known-up}

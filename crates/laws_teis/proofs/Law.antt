@@ -1,7 +1,7 @@
 -- The laws.
 use Rattle.std.specs.Prelude.{◌≡◌, ◌⊎◌, true, List}
 use Rattle.std.proofs.Common.{inl, inr, subst, sym, ap}
-use Rattle.lapd_tei.specs.declared.remembered.Remembered.{Remembered}
+use Rattle.model_teis.specs.declared.network.remembered.Remembered.{Remembered}
 use Rattle.laws_teis.specs.Bus.{Bus, Past, past_of, begun, network_after, network_of}
 use Rattle.laws_teis.specs.Assignments.{AssignmentsHold, IsIn}
 use Rattle.laws_teis.specs.TwoTerminals.{TwoTerminalsDiffer, IsOver, is_older}

@@ -12,9 +12,9 @@ use Rattle.lapd_frame.specs.declared.notes.Note.{Note}
 use Rattle.lapd_frame.specs.declared.notes.Note.TheVariants.{Assigned, Doubled, Removed}
 use Rattle.lapd_frame.specs.declared.timers.Order.TheVariants.{Stop}
 use Rattle.lapd_frame.specs.declared.timers.Timer.TheVariants.{T200, T201, T202, T203}
-use Rattle.lapd_tei.specs.declared.messages.Message.{Message}
-use Rattle.lapd_tei.specs.declared.messages.Message.TheVariants.{IdentityAssigned, IdentityDenied, IdentityCheckRequest, IdentityRemove}
-use Rattle.lapd_tei.specs.declared.remembered.Remembered.{Remembered}
+use Rattle.model_teis.specs.declared.network.messages.Message.{Message}
+use Rattle.model_teis.specs.declared.network.messages.Message.TheVariants.{IdentityAssigned, IdentityDenied, IdentityCheckRequest, IdentityRemove}
+use Rattle.model_teis.specs.declared.network.remembered.Remembered.{Remembered}
 use Rattle.model_line.specs.declared.config.Config.{Config}
 use Rattle.model_line.specs.Event.{Event, hears, expiry, request, next}
 use Rattle.model_line.specs.Request.{Request, Establish, Release, Data, Unit, Assign, Remove, Check, Disown, AskTei, VerifyTei, SetBusy, ClearBusy, Deactivate, Down}

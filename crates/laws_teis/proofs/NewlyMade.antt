@@ -2,9 +2,9 @@
 use Rattle.std.specs.Prelude.{◌≡◌, ℕ, zero, suc, ◌==◌, ◌⊎◌, ⊤, not, true, false, List, [], ◌∷◌, ◌++◌, length, filter, flat_map, drop, refl}
 use Rattle.std.specs.List.{list_any}
 use Rattle.std.proofs.Common.{inl, inr, subst, sym, ap, ◌∙◌}
-use Rattle.lapd_tei.specs.declared.messages.Message.{Message}
-use Rattle.lapd_tei.specs.declared.messages.Message.TheVariants.{IdentityAssigned}
-use Rattle.lapd_tei.specs.declared.remembered.Remembered.{Remembered}
+use Rattle.model_teis.specs.declared.network.messages.Message.{Message}
+use Rattle.model_teis.specs.declared.network.messages.Message.TheVariants.{IdentityAssigned}
+use Rattle.model_teis.specs.declared.network.remembered.Remembered.{Remembered}
 use Rattle.laws_trace.specs.Managing.{Managed, is_on}
 use Rattle.laws_teis.specs.Bus.{assigned_in, newly_owed, newly_made}
 use Rattle.laws_teis.specs.Assignments.{IsIn}

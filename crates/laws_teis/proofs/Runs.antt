@@ -5,8 +5,8 @@ use Rattle.std.proofs.Common.{subst, sym, ap, ◌∙◌, append-nil, eq-eqb, eqb
 use Rattle.std.proofs.lemmas.List.Elements.{All-append, All-cons, All-head, All-nil, All-tail}
 use Rattle.lapd_frame.specs.Grammar.{Parts}
 use Rattle.lapd_frame.specs.declared.addresses.Side.{Side}
-use Rattle.lapd_tei.specs.declared.messages.Message.{Message}
-use Rattle.lapd_tei.specs.declared.remembered.Remembered.{Remembered}
+use Rattle.model_teis.specs.declared.network.messages.Message.{Message}
+use Rattle.model_teis.specs.declared.network.remembered.Remembered.{Remembered}
 use Rattle.model_line.specs.declared.config.Config.{Config}
 use Rattle.model_line.specs.Came.{came}
 use Rattle.model_line.specs.Event as line_event

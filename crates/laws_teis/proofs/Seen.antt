@@ -6,8 +6,8 @@ use Rattle.std.proofs.lemmas.Grind.{fold-append}
 use Rattle.std.proofs.lemmas.List.Elements.{All-append, All-cons, All-nil}
 use Rattle.lapd_frame.specs.declared.notes.Note.{Note}
 use Rattle.lapd_frame.specs.declared.services.Service.TheVariants.{Call}
-use Rattle.lapd_tei.specs.declared.remembered.Remembered.{Remembered}
-use Rattle.lapd_terminal.specs.declared.procedure.Procedure.{Procedure}
+use Rattle.model_teis.specs.declared.network.remembered.Remembered.{Remembered}
+use Rattle.model_teis.specs.declared.terminal.procedure.Procedure.{Procedure}
 use Rattle.model_line.specs.declared.config.Config.{Config}
 use Rattle.model_line.specs.Event as line_event
 use Rattle.model_line.specs.Line.{state_of}

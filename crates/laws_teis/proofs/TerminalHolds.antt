@@ -3,7 +3,7 @@ use Rattle.std.specs.Prelude.{◌≡◌, ℕ, ◌==◌, ◌||◌, ◌⊎◌, tru
 use Rattle.std.specs.List.{list_any}
 use Rattle.std.specs.Option.{unwrap_or}
 use Rattle.std.proofs.Common.{inl, inr, subst, sym, ap, ◌∙◌, true≢false}
-use Rattle.lapd_tei.specs.declared.remembered.Remembered.{Remembered}
+use Rattle.model_teis.specs.declared.network.remembered.Remembered.{Remembered}
 use Rattle.model_line.specs.Came.{came}
 use Rattle.model_line.specs.Event.{Event, hears}
 use Rattle.laws_trace.specs.Managing.{Managed, is_on, due, own_of}

@@ -8,9 +8,9 @@ use Rattle.lapd_frame.specs.Grammar.{Parts}
 use Rattle.lapd_frame.specs.declared.notes.Note.{Note}
 use Rattle.lapd_frame.specs.declared.notes.Note.TheVariants.{Assigned, Denied, Unassigned}
 use Rattle.lapd_frame.specs.declared.timers.Timer.TheVariants.{T200, T201, T202, T203}
-use Rattle.lapd_tei.specs.declared.remembered.Remembered.{Remembered}
-use Rattle.lapd_terminal.specs.declared.procedure.Procedure.{Procedure}
-use Rattle.lapd_terminal.specs.declared.procedure.Procedure.TheVariants.{Asking, Verifying}
+use Rattle.model_teis.specs.declared.network.remembered.Remembered.{Remembered}
+use Rattle.model_teis.specs.declared.terminal.procedure.Procedure.{Procedure}
+use Rattle.model_teis.specs.declared.terminal.procedure.Procedure.TheVariants.{Asking, Verifying}
 use Rattle.model_line.specs.declared.config.Config.{Config}
 use Rattle.model_line.specs.Came.{came}
 use Rattle.model_line.specs.Event.{Event, hears, expiry, request, next}

@@ -4,9 +4,9 @@ use Rattle.std.specs.List.{list_any}
 use Rattle.std.specs.Option.{option_map_or}
 use Rattle.lapd_frame.specs.declared.services.Service.TheVariants.{Call}
 use Rattle.lapd_frame.specs.Grammar.{Parts}
-use Rattle.lapd_tei.specs.declared.messages.Message.{Message}
-use Rattle.lapd_tei.specs.declared.messages.Message.TheVariants.{IdentityAssigned, IdentityRemove}
-use Rattle.lapd_tei.specs.declared.remembered.Remembered.{Remembered}
+use Rattle.model_teis.specs.declared.network.messages.Message.{Message}
+use Rattle.model_teis.specs.declared.network.messages.Message.TheVariants.{IdentityAssigned, IdentityRemove}
+use Rattle.model_teis.specs.declared.network.remembered.Remembered.{Remembered}
 use Rattle.model_line.specs.declared.config.Config.{Config}
 use Rattle.model_line.specs.Came.{came}
 use Rattle.model_line.specs.Event as line_event

@@ -1,7 +1,7 @@
 -- Two terminals on one bus have one TEI only by one reference number, or if that which was assigned it before did not hear that it
 -- is removed.
 use Rattle.std.specs.Prelude.{◌≡◌, ℕ, ◌&&◌, ◌⊎◌, Bool, true, false, List, [], ◌∷◌, All, if◌then◌else◌}
-use Rattle.lapd_tei.specs.declared.remembered.Remembered.{Remembered}
+use Rattle.model_teis.specs.declared.network.remembered.Remembered.{Remembered}
 use Rattle.model_line.specs.declared.config.Config.{Config}
 use Rattle.laws_teis.specs.Bus.{Bus, Past, Step, network_of, removal_comes, is_among, past_of}
 use Rattle.laws_teis.specs.Assignments.{CanMeet, IsThere, IsIn, given_to}

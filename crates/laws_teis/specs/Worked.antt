@@ -8,9 +8,9 @@ use Rattle.lapd_frame.specs.declared.readings.Reading.TheVariants.{AnnexB}
 use Rattle.lapd_frame.specs.declared.timers.Timer.TheVariants.{T201}
 use Rattle.lapd_frame.specs.Reading.{reading, header_of, control_of, unnumbered_of}
 use Rattle.lapd_frame.specs.Senders.{exchanged, reading as read_by}
-use Rattle.lapd_tei.specs.Events as teis
-use Rattle.lapd_tei.specs.declared.remembered.Remembered.{Remembered}
-use Rattle.lapd_terminal.specs.Events as terminals
+use Rattle.model_teis.specs.network.Events as teis
+use Rattle.model_teis.specs.declared.network.remembered.Remembered.{Remembered}
+use Rattle.model_teis.specs.terminal.Events as terminals
 use Rattle.model_bits.specs.Stream.{frame}
 use Rattle.model_line.specs.Config as configs
 use Rattle.model_line.specs.declared.config.Config.{Config}

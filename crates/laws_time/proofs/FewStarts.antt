@@ -2,7 +2,7 @@
 use Rattle.laws_time.proofs.Vocabulary.{Aim, Call, Card, Config, IsSound, LineTold, LinkEvent, LinkTimer, List, None, Option, Packet, PoolFull, Refusal, Service, Some, TeiEvent, TerminalEvent, Terms, [], aim_of, aim_of_request, arith, at_link, at_management, at_terminal, cond, course, expiry, false, has_lines, length, line_answer as answer, line_at, line_sound, link_cleared, link_in, next}
 use Rattle.laws_time.proofs.Vocabulary.{of_aim, of_change, of_link, orders_for, orders_in, refl, refusal, refused, request, starts, tei_down, terms, true, unless_refused, unless_refused_told, without_units, ℕ, ◌++◌, ◌<◌, ◌∷◌, ◌≡◌, ◌≤◌}
 use Rattle.model_line.proofs.Vocabulary.{Order, Start, Stop, Change, Gained, Left, one-start, Event, hears, Line}
-use Rattle.lapd_tei.specs.Laws as tei_laws
+use Rattle.model_teis.specs.network.Laws as tei_laws
 use Rattle.laws_line.proofs.Short.{answers_are_short}
 use Rattle.model_line.proofs.Downs.{down-sound}
 use Rattle.model_line.proofs.Managed.{IsOwnEvent, by-managed, by-own-event}

@@ -48,11 +48,11 @@ pub use Rattle.lapd_frame.specs.declared.timers.Timer.TheVariants.{T200 as timer
 unfoldable pub use Rattle.lapd_seq.specs.Circle.{distance_of, named}
 unfoldable pub use Rattle.lapd_seq.specs.Numbers.{seq}
 pub use Rattle.lapd_seq.specs.declared.numbers.Seq.{Seq}
-pub use Rattle.lapd_tei.proofs.Tables.{is_on-at, place_of-is}
-pub use Rattle.lapd_tei.specs.Events.{Event as TeiEvent, assign as tei_assign, down as tei_down}
-unfoldable pub use Rattle.lapd_tei.specs.Events.{course as tei_course, refusal as tei_refusal}
-pub use Rattle.lapd_terminal.specs.Events.{Event as TerminalEvent}
-unfoldable pub use Rattle.lapd_terminal.specs.Events.{course as terminal_course}
+pub use Rattle.model_teis.proofs.Tables.{is_on-at, place_of-is}
+pub use Rattle.model_teis.specs.network.Events.{Event as TeiEvent, assign as tei_assign, down as tei_down}
+unfoldable pub use Rattle.model_teis.specs.network.Events.{course as tei_course, refusal as tei_refusal}
+pub use Rattle.model_teis.specs.terminal.Events.{Event as TerminalEvent}
+unfoldable pub use Rattle.model_teis.specs.terminal.Events.{course as terminal_course}
 pub use Rattle.laws_line.proofs.OfCard.Meanwhile.{all-left, all-right}
 pub use Rattle.laws_line.specs.Heard.{notes_of}
 pub use Rattle.laws_line.specs.Steady.{IsBy, timer_of}

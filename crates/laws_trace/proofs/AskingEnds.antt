@@ -2,7 +2,7 @@
 use Rattle.laws_trace.proofs.Vocabulary.{◌≡◌, ℕ, ◌+◌, ◌<◌, ◌≤◌, ◌==◌, ◌&&◌, Bool, true, false, cond, not, List, [], ◌∷◌, ◌++◌, length, length-append, filter, Option, Some, None, is_some, refl, sym, ap, ◌∙◌, subst, ◌⊎◌, inl, arith, nat_lt, fold-append, sum_by-cons, append-nil, append_assoc, All, All-head, All-tail, Card, none-some, true≢false, eqb-true, Config, IsInRange, Note}
 use Rattle.laws_trace.proofs.Vocabulary.{at, moments, Moment, after_all-append, all-left, unwrap_or, list_any}
 use Rattle.laws_trace.proofs.Vocabulary.{fresh, CardEvent as Event, after, card_answer as answer, after_all, IsAtLine, AreAtLines, Managed, nothing_due, none_on, due, led, managed_after, Always, notes_of, is_of_teis, moment_of}
-use Rattle.lapd_terminal.specs.declared.procedure.Procedure.{Procedure}
+use Rattle.model_teis.specs.declared.terminal.procedure.Procedure.{Procedure}
 use Rattle.laws_line.specs.Share.{is_granted}
 use Rattle.model_line.specs.Event as line_event
 use Rattle.model_line.specs.Event.{expiry, request}

@@ -1,7 +1,7 @@
 -- What an observer of a terminal's line knows of its asking for a TEI, event by event.
 use Rattle.laws_trace.proofs.Vocabulary.{◌≡◌, ℕ, ◌+◌, ◌*◌, ◌/◌, ◌%◌, ◌==◌, ◌&&◌, Bool, true, false, cond, not, List, [], ◌∷◌, length, filter, Option, Some, None, refl, ap, ◌∙◌, ◌⊎◌, inl, fold, list_any, is_some, nat_lt, nat_le, unwrap_or, option_and_then, true≢false, Config, Parts}
-use Rattle.lapd_terminal.specs.declared.procedure.Procedure.{Procedure}
-use Rattle.lapd_terminal.specs.declared.procedure.Procedure.TheVariants.{Asking, Verifying}
+use Rattle.model_teis.specs.declared.terminal.procedure.Procedure.{Procedure}
+use Rattle.model_teis.specs.declared.terminal.procedure.Procedure.TheVariants.{Asking, Verifying}
 use Rattle.model_line.specs.Event.{Event, request}
 use Rattle.model_line.specs.Request.{Request, AskTei, Down}
 use Rattle.laws_trace.specs.AskingEnds.{is_result, is_t202}

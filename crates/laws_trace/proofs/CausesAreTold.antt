@@ -8,9 +8,9 @@ use Rattle.laws_trace.proofs.Vocabulary.{after_all, IsAtLine, CardIsSound as IsS
 use Rattle.laws_trace.proofs.Vocabulary.{told, dropped, none-some, Assign, Checking, ClearBusy, Data, Deactivate, Disown, Down, Establish, Release, Remove, SetBusy, LinkClearBusy, LinkData, LinkEstablish, LinkRelease, LinkSetBusy}
 use Rattle.lapd_frame.specs.declared.controls.Control.{Control}
 use Rattle.lapd_frame.specs.declared.timers.Timer.TheVariants.{T202}
-use Rattle.lapd_tei.specs.Events.{expiry as tei_expiry}
-use Rattle.lapd_terminal.specs.Events as terminals
-use Rattle.lapd_terminal.specs.Events.{Event as TerminalEvent, after as terminal_after, told as terminal_told}
+use Rattle.model_teis.specs.network.Events.{expiry as tei_expiry}
+use Rattle.model_teis.specs.terminal.Events as terminals
+use Rattle.model_teis.specs.terminal.Events.{Event as TerminalEvent, after as terminal_after, told as terminal_told}
 use Rattle.model_bits.specs.declared.heard.Cause.{Cause}
 use Rattle.model_bits.specs.declared.heard.Cause.TheVariants.{Sapi, Tei, Unserved}
 use Rattle.lapd_frame.specs.declared.faults.ReadFault.TheVariants.{Undefined, WrongSize, Short}

@@ -5,11 +5,11 @@ use Rattle.laws_trace.proofs.Vocabulary.{Aim, IsSound as IsSoundLine, at}
 use Rattle.laws_trace.proofs.Vocabulary.{Managed, Management, Change, of_change, not, tei_begun, tei_told, tei_message, TeiEvent}
 use Rattle.laws_trace.proofs.Vocabulary.{true≢false, tei_step, tei_unless_refused, heard_of_type, Check, Checked, Doubled, Places, list_any, length, nat_le, eq-eqb, subst, owes, TeiCourse as Course}
 use Rattle.laws_trace.proofs.Vocabulary.{tei_course, tei_refusal, no_room, lose_one}
-use Rattle.lapd_tei.specs.Rows as rows
+use Rattle.model_teis.specs.network.Rows as rows
 use Rattle.lapd_frame.specs.declared.refusals.Refusal.{Refusal}
-use Rattle.lapd_tei.specs.Events.{down as tei_down}
-use Rattle.lapd_terminal.specs.Events as terminals
-use Rattle.lapd_terminal.specs.Events.{Event as TerminalEvent, after as terminal_after, told as terminal_told}
+use Rattle.model_teis.specs.network.Events.{down as tei_down}
+use Rattle.model_teis.specs.terminal.Events as terminals
+use Rattle.model_teis.specs.terminal.Events.{Event as TerminalEvent, after as terminal_after, told as terminal_told}
 use Rattle.model_bits.specs.declared.heard.Cause.{Cause}
 use Rattle.model_line.specs.Event as line_event
 use Rattle.model_line.specs.Effect.{at_a_terminal, at_terminal, of_network, of_terminal_if, told_of_terminal, unserved_cause, without_units}
@@ -18,10 +18,10 @@ use Rattle.laws_trace.specs.CausesAreTold.{serves_information, unless}
 use Rattle.lapd_frame.specs.declared.notes.Note.{Note}
 use Rattle.lapd_frame.specs.declared.timers.Order.{Order}
 use Rattle.lapd_frame.specs.Readings.{by_reading}
-use Rattle.lapd_tei.specs.declared.messages.Message.TheVariants.{IdentityDenied, IdentityRemove}
-use Rattle.lapd_tei.specs.Machine.{next_checked}
-use Rattle.lapd_tei.specs.Messages.{is_extended}
-use Rattle.lapd_tei.specs.Words.{check_is, end_check, note, send, unserved}
+use Rattle.model_teis.specs.declared.network.messages.Message.TheVariants.{IdentityDenied, IdentityRemove}
+use Rattle.model_teis.specs.network.Machine.{next_checked}
+use Rattle.model_teis.specs.network.Messages.{is_extended}
+use Rattle.model_teis.specs.network.Words.{check_is, end_check, note, send, unserved}
 use Rattle.laws_trace.specs.Managing.{asks, is_given, own_of, several, verified}
 use Rattle.laws_trace.specs.ManagingTerminal as seen
 use Rattle.laws_trace.proofs.CheckEnds.{as_seen, seen_check}

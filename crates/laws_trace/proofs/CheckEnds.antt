@@ -2,11 +2,12 @@
 use Rattle.laws_trace.proofs.Vocabulary.{◌≡◌, ℕ, ◌==◌, Bool, true, false, cond, not, List, [], ◌∷◌, ◌++◌, Option, Some, None, IfSome, option_map, option_map_or, refl, sym, ap, subst, filter, find, Note, T201, Places, IsSoundTable, Management, Remembered, Period, First, Second}
 use Rattle.laws_trace.proofs.Vocabulary.{Check, TeiCourse as Course, Checked, Managed, nothing_due, leaves, over, checks, is_of_teis}
 use Rattle.laws_trace.proofs.Vocabulary.{is_of_line, end_check, leave}
-use Rattle.lapd_tei.specs.Rows as rows
+use Rattle.model_teis.specs.network.Rows as rows
 use Rattle.lapd_frame.specs.declared.timers.Order.TheVariants.{Start, Stop}
-use Rattle.lapd_tei.specs.Machine.{next_checked, is_due}
-use Rattle.lapd_tei.specs.Sound.{IsAsRead}
-use Rattle.lapd_tei.specs.Words.{begin_next, nothing_happens}
+use Rattle.model_teis.specs.network.Machine.{next_checked, is_due}
+use Rattle.model_teis.specs.network.Sound.{IsAsRead}
+use Rattle.model_teis.specs.Steps.{nothing_happens}
+use Rattle.model_teis.specs.network.Words.{begin_next}
 use Rattle.laws_trace.specs.Managing.{others}
 use Rattle.laws_trace.specs.ManagingTerminal.{teis_of, without_tei}
 use Rattle.laws_trace.proofs.ManagingPlaces.{ArePlaced, among, checked-next, left-placed, next-there, none-first, same-teis}

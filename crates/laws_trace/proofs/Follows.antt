@@ -4,13 +4,14 @@ use Rattle.laws_trace.proofs.Vocabulary.{First, Second, Message}
 use Rattle.laws_trace.proofs.Vocabulary.{IdentityAssigned}
 use Rattle.laws_trace.proofs.Vocabulary.{IdentityDenied, IdentityRemove, heard_of_type, IsSoundCheck, free_place, free_tei-is, Config, eqb-true, ltb-true, ltb-false, Removed, Doubled, Check, TeiCourse as Course, tei_begun as begun, Checked, Managed, owes, gives, leaves, over, checks, responded, ran_out, managing_is_on as is_on}
 use Rattle.laws_trace.proofs.Vocabulary.{begin_check, end_check, leave, lose_one, no_room, send, unserved, false_from_ne_true}
-use Rattle.lapd_tei.specs.Rows as rows
+use Rattle.model_teis.specs.network.Rows as rows
 use Rattle.lapd_frame.specs.Readings.{by_reading}
-use Rattle.lapd_tei.specs.declared.messages.Message.TheVariants.{IdentityCheckRequest}
-use Rattle.lapd_tei.specs.Messages.{is_extended}
-use Rattle.lapd_tei.specs.Sound.{IsSound}
-use Rattle.lapd_tei.specs.Words.{check_is, check_is_due, join, nothing_happens, note, due_at}
-use Rattle.lapd_tei.specs.Table as table
+use Rattle.model_teis.specs.declared.network.messages.Message.TheVariants.{IdentityCheckRequest}
+use Rattle.model_teis.specs.network.Messages.{is_extended}
+use Rattle.model_teis.specs.network.Sound.{IsSound}
+use Rattle.model_teis.specs.Steps.{nothing_happens}
+use Rattle.model_teis.specs.network.Words.{check_is, check_is_due, join, note, due_at}
+use Rattle.model_teis.specs.Table as table
 use Rattle.laws_trace.specs.Managing.{asks, comes, defers, is_asked, is_given, removes, several, verified}
 use Rattle.laws_trace.specs.ManagingTerminal.{with_tei}
 use Rattle.laws_trace.proofs.ManagingNotes.{by_message}

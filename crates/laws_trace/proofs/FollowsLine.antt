@@ -4,11 +4,11 @@ use Rattle.laws_trace.proofs.Vocabulary.{◌≡◌, ℕ, true, false, cond, List
 use Rattle.laws_trace.proofs.Vocabulary.{aim_of_heard, Taken, taken, line_of, heard_aims, IsOwed, IsIdle, contents_of_link, served, TimerT200 as T200, TimerT203 as T203, T201, message_frame as frame_of, information_of, Event, told, line_after as after, answer, IsSound, Managed, managing_by_event as by_event, received, StreamEvent, tei_message, TeiEvent}
 use Rattle.laws_trace.proofs.Vocabulary.{tei_refusal, tei_course}
 use Rattle.lapd_frame.specs.declared.timers.Timer.TheVariants.{T202}
-use Rattle.lapd_terminal.specs.Events as terminals
+use Rattle.model_teis.specs.terminal.Events as terminals
 use Rattle.model_line.specs.Effect.{at_a_terminal, of_network, of_terminal, of_terminal_if}
 use Rattle.model_link.specs.declared.timers.LinkTimer.TheVariants as link_timer
 use Rattle.laws_trace.proofs.Vocabulary.{aim_of}
-use Rattle.lapd_tei.specs.Events.{expiry as tei_expiry}
+use Rattle.model_teis.specs.network.Events.{expiry as tei_expiry}
 use Rattle.model_line.specs.Line.{is_terminal, Own}
 use Rattle.model_line.proofs.Managed.{idle_course}
 use Rattle.laws_trace.specs.Managing.{octets_of}

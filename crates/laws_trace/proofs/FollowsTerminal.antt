@@ -7,15 +7,16 @@ use Rattle.lapd_frame.specs.declared.notes.Note.TheVariants as notes
 use Rattle.lapd_frame.specs.declared.timers.Order.{Order}
 use Rattle.lapd_frame.specs.declared.timers.Order.TheVariants.{Stop}
 use Rattle.lapd_frame.specs.declared.timers.Timer.TheVariants.{T202}
-use Rattle.lapd_tei.specs.Table as table
-use Rattle.lapd_terminal.specs.declared.outcome.News.TheVariants as news
-use Rattle.lapd_terminal.specs.declared.procedure.Procedure.{Procedure}
-use Rattle.lapd_terminal.specs.declared.procedure.Procedure.TheVariants.{Asking, Verifying}
-use Rattle.lapd_terminal.specs.Machine.{Terminal}
-use Rattle.lapd_terminal.specs.Messages.{heard_in, heard_of_type}
-use Rattle.lapd_terminal.specs.Rows as rows
-use Rattle.lapd_terminal.specs.Words as words
-use Rattle.lapd_terminal.specs.Words.{Course, begun, end_procedure, end_verifying_of, nothing_happens, unserved}
+use Rattle.model_teis.specs.Table as table
+use Rattle.model_teis.specs.declared.terminal.told.News.TheVariants as news
+use Rattle.model_teis.specs.declared.terminal.procedure.Procedure.{Procedure}
+use Rattle.model_teis.specs.declared.terminal.procedure.Procedure.TheVariants.{Asking, Verifying}
+use Rattle.model_teis.specs.terminal.Machine.{Terminal}
+use Rattle.model_teis.specs.terminal.Messages.{heard_in, heard_of_type}
+use Rattle.model_teis.specs.terminal.Rows as rows
+use Rattle.model_teis.specs.terminal.Words as words
+use Rattle.model_teis.specs.Steps.{nothing_happens}
+use Rattle.model_teis.specs.terminal.Words.{Course, begun, end_procedure, end_verifying_of, unserved}
 use Rattle.model_line.specs.Effect.{note_of, order_of}
 use Rattle.laws_trace.specs.ManagingTerminal as seen
 use Rattle.laws_trace.specs.ManagingTerminal.{OfTerminal}

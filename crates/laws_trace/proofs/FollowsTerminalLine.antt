@@ -4,19 +4,19 @@ use Rattle.laws_trace.proofs.Vocabulary.{aim_of_heard, Taken, taken, line_of, he
 use Rattle.std.specs.Prelude.{option_to_list}
 use Rattle.std.specs.Option.{option_and_then}
 use Rattle.lapd_frame.specs.declared.timers.Timer.TheVariants.{T202}
-use Rattle.lapd_tei.specs.Events as teis
-use Rattle.lapd_terminal.specs.declared.messages.Message.{Message}
-use Rattle.lapd_terminal.specs.declared.outcome.News.{News}
-use Rattle.lapd_terminal.specs.declared.outcome.T202Order.{T202Order}
-use Rattle.lapd_terminal.specs.Events as terminals
-use Rattle.lapd_terminal.specs.Events.{Event as TerminalEvent}
-use Rattle.lapd_terminal.specs.Laws as terminal_laws
-use Rattle.lapd_terminal.specs.Machine.{Terminal}
-use Rattle.lapd_terminal.specs.Messages as messages
-use Rattle.lapd_terminal.specs.Sound as terminal
-use Rattle.lapd_terminal.specs.Words.{Course}
-use Rattle.lapd_terminal.proofs.Served.{leads}
-use Rattle.lapd_terminal.proofs.Told.{unserved_changes_nothing}
+use Rattle.model_teis.specs.network.Events as teis
+use Rattle.model_teis.specs.declared.terminal.messages.Message.{Message}
+use Rattle.model_teis.specs.declared.terminal.told.News.{News}
+use Rattle.model_teis.specs.declared.terminal.told.T202Order.{T202Order}
+use Rattle.model_teis.specs.terminal.Events as terminals
+use Rattle.model_teis.specs.terminal.Events.{Event as TerminalEvent}
+use Rattle.model_teis.specs.terminal.Laws as terminal_laws
+use Rattle.model_teis.specs.terminal.Machine.{Terminal}
+use Rattle.model_teis.specs.terminal.Messages as messages
+use Rattle.model_teis.specs.terminal.Sound as terminal
+use Rattle.model_teis.specs.terminal.Words.{Course}
+use Rattle.model_teis.proofs.OfTerminal.Served.{leads}
+use Rattle.model_teis.proofs.OfTerminal.Told.{unserved_changes_nothing}
 use Rattle.model_line.specs.Effect.{Effect, at_a_terminal, note_of, order_of, of_network, of_terminal, told_of_terminal}
 use Rattle.model_line.specs.Line.{is_terminal, Own, terminal_in, with_terminal}
 use Rattle.model_line.specs.Sound.{IsOfSide, IsUnused}

@@ -6,14 +6,14 @@ use Rattle.laws_trace.proofs.Vocabulary.{is_of_line, LinkSetBusy, LinkClearBusy,
 use Rattle.lapd_frame.specs.declared.addresses.Side.{Side}
 use Rattle.lapd_frame.specs.declared.refusals.Refusal.TheVariants.{BadTei, NoLink, TeiTaken, TableFull, CheckRunning, WrongSide}
 use Rattle.lapd_frame.specs.declared.timers.Timer.TheVariants.{T202}
-use Rattle.lapd_tei.specs.Events.{refusal_if}
-use Rattle.lapd_terminal.specs.declared.procedure.Procedure.{Procedure}
-use Rattle.lapd_terminal.specs.Events as terminals
-use Rattle.lapd_terminal.specs.Events.{Event as TerminalEvent}
-use Rattle.lapd_terminal.specs.Laws as terminal_laws
-use Rattle.lapd_terminal.specs.Machine.{Terminal}
-use Rattle.lapd_terminal.specs.Words.{begun, ask as ask_first, verify as verify_first}
-use Rattle.lapd_terminal.specs.Rows as rows
+use Rattle.model_teis.specs.Refused.{refusal_if}
+use Rattle.model_teis.specs.declared.terminal.procedure.Procedure.{Procedure}
+use Rattle.model_teis.specs.terminal.Events as terminals
+use Rattle.model_teis.specs.terminal.Events.{Event as TerminalEvent}
+use Rattle.model_teis.specs.terminal.Laws as terminal_laws
+use Rattle.model_teis.specs.terminal.Machine.{Terminal}
+use Rattle.model_teis.specs.terminal.Words.{begun, ask as ask_first, verify as verify_first}
+use Rattle.model_teis.specs.terminal.Rows as rows
 use Rattle.model_line.specs.Effect.{at_a_terminal, of_network, of_terminal, of_terminal_if}
 use Rattle.model_line.specs.Line.{is_at, is_terminal, terminal_in}
 use Rattle.model_line.specs.Refusal.{first_that_holds, wrong_side, not_network, not_terminal, procedure_running}

@@ -10,10 +10,10 @@ use Rattle.laws_trace.proofs.ToldGivenUp.{none-in}
 use Rattle.laws_trace.proofs.Vocabulary.{IsAt, subst, given_up_in, given_up_of, link_told}
 use Rattle.model_line.specs.Event as line_event
 use Rattle.model_link.specs.Events as link_event
-use Rattle.lapd_tei.specs.Table.{is_on}
+use Rattle.model_teis.specs.Table.{is_on}
 use Rattle.laws_line.proofs.Changes.{AreOfLine, Turn, turned, turned-there}
 use Rattle.laws_trace.proofs.Vocabulary.{LineTold, at_management, of_aim}
-use Rattle.lapd_terminal.specs.Events.{Event as TerminalEvent}
+use Rattle.model_teis.specs.terminal.Events.{Event as TerminalEvent}
 use Rattle.model_line.proofs.Managed.{IsOwnEvent}
 use Rattle.model_line.specs.Effect.{Effect, at_terminal}
 use Rattle.model_line.specs.Line.{Own}

@@ -4,8 +4,9 @@ use Rattle.laws_trace.proofs.Vocabulary.{is-off, place_of-is, is_on-at, free_pla
 use Rattle.std.specs.List.{position}
 use Rattle.std.proofs.lemmas.List.{map-set, set-get_or}
 use Rattle.laws_trace.proofs.ManagingTables.{on-coming, on-leaving}
-use Rattle.lapd_tei.specs.Machine.{is_due, tei_at}
-use Rattle.lapd_tei.specs.Words.{due_at}
+use Rattle.model_teis.specs.Table.{tei_at}
+use Rattle.model_teis.specs.network.Machine.{is_due}
+use Rattle.model_teis.specs.network.Words.{due_at}
 use Rattle.laws_trace.specs.Managing.{others}
 use Rattle.laws_trace.specs.ManagingTerminal.{teis_of, with_tei, without_tei}
 

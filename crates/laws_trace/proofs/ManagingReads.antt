@@ -1,10 +1,10 @@
 -- What a terminal says, as the observer and TEI management tell it apart, and rows that differ by the reading.
 use Rattle.laws_trace.proofs.Vocabulary.{◌≡◌, ℕ, ◌+◌, ◌%◌, ◌==◌, ◌&&◌, ◌||◌, Bool, false, cond, not, List, [], ◌∷◌, length, list_any, nat_le, Option, Some, None, option_map_or, refl, ap, ◌∙◌, arith, Message}
 use Rattle.laws_trace.proofs.Vocabulary.{IdentityDenied, Config, eqb-true, Managed, owes, responded}
-use Rattle.lapd_tei.specs.Rows as rows
+use Rattle.model_teis.specs.network.Rows as rows
 use Rattle.lapd_frame.specs.Readings.{by_reading}
 use Rattle.lapd_frame.specs.declared.readings.Reading.{Reading}
-use Rattle.lapd_tei.specs.Messages.{has_actions, is_extended}
+use Rattle.model_teis.specs.network.Messages.{has_actions, is_extended}
 use Rattle.laws_trace.specs.Managing.{asks, is_given, requested, verified}
 use Rattle.std.specs.List.{position}
 use Rattle.std.specs.Option.{option_and_then}

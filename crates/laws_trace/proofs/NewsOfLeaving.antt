@@ -5,7 +5,7 @@ use Rattle.laws_trace.proofs.Vocabulary.{request_proper, notes_of, has-place, Do
 use Rattle.laws_trace.proofs.Vocabulary.{link_told as told, false_from_ne_true, received, LinkEvent, cleared, StreamEvent, tei_check, TeiEvent, tei_message}
 use Rattle.laws_line.proofs.Changes.{AreOfTeis, Turn, turned, turned-there}
 use Rattle.laws_trace.proofs.Vocabulary.{LineTold, Assign, Remove, tei_assign, tei_remove}
-use Rattle.lapd_terminal.specs.Events.{Event as TerminalEvent, ask as terminal_ask, verify as terminal_verify}
+use Rattle.model_teis.specs.terminal.Events.{Event as TerminalEvent, ask as terminal_ask, verify as terminal_verify}
 use Rattle.model_line.proofs.Managed.{IsOwnEvent}
 use Rattle.model_line.specs.Effect.{Effect, at_terminal}
 use Rattle.model_line.specs.Line.{Own}
@@ -72,7 +72,7 @@ module _ (service : Service) (tei : ℕ) (c : Config) (l : Line) (s : IsSound c 
         go true same = grind (arith, eqb-true, its-own)
         go false other =
             let apart = false_from_ne_true (tei == by) (λ is. true≢false (sym (eq-eqb by tei (sym (eqb-true tei by is))) ∙ other)) in
-            absurd (true≢false (sym (ap (is_on tei) gone.is_free ∙ ap (λ o. is_on tei (Rattle.lapd_tei.specs.Words.freed l.management.places o)) (sym (has-place l.management.places by place' s.management.table gone.was_there))
+            absurd (true≢false (sym (ap (is_on tei) gone.is_free ∙ ap (λ o. is_on tei (Rattle.model_teis.specs.Table.freed l.management.places o)) (sym (has-place l.management.places by place' s.management.table gone.was_there))
             ∙ on-leaving l.management.places by tei s.management.table ∙ ap (λ b. not b && is_on tei l.management.places) apart ∙ there) ∙ off))
 
   abbrev GoneBy : Effect → Type 0

@@ -8,8 +8,8 @@ use Rattle.laws_trace.proofs.OneLink.{is_at_link}
 use Rattle.lapd_frame.specs.declared.timers.Timer.TheVariants.{T202}
 use Rattle.laws_line.proofs.Changes.{AreOfTeis, IsOfTeis, Turn, turned, turned-there}
 use Rattle.laws_trace.proofs.Vocabulary.{T201, LineTold}
-use Rattle.lapd_terminal.specs.Events.{Event as TerminalEvent, ask as terminal_ask, expiry as terminal_expiry, verify as terminal_verify}
-use Rattle.lapd_tei.specs.Events.{expiry as tei_expiry}
+use Rattle.model_teis.specs.terminal.Events.{Event as TerminalEvent, ask as terminal_ask, expiry as terminal_expiry, verify as terminal_verify}
+use Rattle.model_teis.specs.network.Events.{expiry as tei_expiry}
 use Rattle.model_line.proofs.Managed.{IsOwnEvent}
 use Rattle.model_line.specs.Effect.{Effect, at_terminal}
 use Rattle.model_line.specs.Line.{Own}

@@ -3,14 +3,14 @@ use Rattle.laws_trace.proofs.Vocabulary.{◌≡◌, ℕ, ◌<◌, ◌&&◌, ◌|
 use Rattle.laws_trace.proofs.Vocabulary.{aim_of_request}
 use Rattle.laws_trace.proofs.Vocabulary.{unless_refused, unless_refused_told, refusal, IsProper, heard_aims, heard_proper, expiry_proper, request_proper, Change, Left, Moves, Management, TeiEvent, LineTold, Aim, at_no_link, at_management, of_aim, IsSound, IsInRange, by-down, hears, expiry, request, next, notes_of, is_loss_of, Event, seen, Card, line_at, at, after}
 use Rattle.laws_trace.proofs.Vocabulary.{card_answer as answer, CardIsSound, Refusal, Request, TeiIsInRange}
-use Rattle.lapd_tei.proofs.LawLemmas as tei_lemmas
-use Rattle.lapd_tei.specs.Events as teis
-use Rattle.lapd_terminal.proofs.Served.{leads}
-use Rattle.lapd_terminal.specs.Events as terminals
-use Rattle.lapd_terminal.specs.Laws as terminal_laws
-use Rattle.lapd_terminal.specs.Machine.{Terminal}
-use Rattle.lapd_terminal.specs.Rows as rows
-use Rattle.lapd_terminal.specs.Words.{Course}
+use Rattle.model_teis.proofs.OfNetwork.LawLemmas as tei_lemmas
+use Rattle.model_teis.specs.network.Events as teis
+use Rattle.model_teis.proofs.OfTerminal.Served.{leads}
+use Rattle.model_teis.specs.terminal.Events as terminals
+use Rattle.model_teis.specs.terminal.Laws as terminal_laws
+use Rattle.model_teis.specs.terminal.Machine.{Terminal}
+use Rattle.model_teis.specs.terminal.Rows as rows
+use Rattle.model_teis.specs.terminal.Words.{Course}
 use Rattle.model_line.proofs.Managed.{idle_course}
 use Rattle.model_line.specs.Effect.{Effect, at_terminal, of_change, of_network, of_terminal, told_of_management, told_of_terminal}
 use Rattle.model_line.specs.Line.{Own, is_terminal, terminal_in, with_terminal}

@@ -8,11 +8,11 @@ use Rattle.model_link.specs.Machine as links
 use Rattle.model_link.specs.Sound as link_sound
 use Rattle.laws_trace.proofs.OneLink.{Goes, event-goes}
 use Rattle.laws_trace.proofs.Runs.{run-shows}
-use Rattle.lapd_tei.specs.Events as teis
-use Rattle.lapd_terminal.specs.Events as terminals
-use Rattle.lapd_terminal.specs.Messages.{action_of as own_action_of, frame_of as own_frame_of}
-use Rattle.lapd_terminal.specs.declared.messages.Message.{Message as OwnMessage}
-use Rattle.lapd_terminal.proofs.SoundWords.{low_front}
+use Rattle.model_teis.specs.network.Events as teis
+use Rattle.model_teis.specs.terminal.Events as terminals
+use Rattle.model_teis.specs.terminal.Messages.{action_of as own_action_of, frame_of as own_frame_of}
+use Rattle.model_teis.specs.declared.terminal.messages.Message.{Message as OwnMessage}
+use Rattle.model_teis.proofs.OfTerminal.SoundWords.{low_front}
 use Rattle.model_line.specs.Line.{is_terminal, terminal_in}
 use Rattle.model_line.specs.Sound.{IsOfSide}
 use Rattle.model_line.specs.Taken.{message_taken, unit_taken, with_own_message}

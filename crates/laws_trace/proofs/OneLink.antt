@@ -1,10 +1,10 @@
 -- What an event of a line is to the link of a service with a TEI, at whatever place the TEI is: one event of this link,
 -- its deactivation, or none.
 use Rattle.laws_trace.proofs.Vocabulary.{spelling, cond, with_unit, with_message, taken, information_of, Ui, own_side}
-use Rattle.lapd_tei.specs.Events as teis
-use Rattle.lapd_terminal.specs.Events as terminals
-use Rattle.lapd_terminal.specs.declared.messages.Message.{Message as OwnMessage}
-use Rattle.lapd_terminal.specs.Messages.{frame_of as own_frame_of, information_of as own_information_of}
+use Rattle.model_teis.specs.network.Events as teis
+use Rattle.model_teis.specs.terminal.Events as terminals
+use Rattle.model_teis.specs.declared.terminal.messages.Message.{Message as OwnMessage}
+use Rattle.model_teis.specs.terminal.Messages.{frame_of as own_frame_of, information_of as own_information_of}
 use Rattle.model_line.specs.Line.{is_terminal, terminal_in}
 use Rattle.model_line.specs.Taken.{message_taken, unit_taken, with_own_message}
 use Rattle.laws_trace.proofs.ReadAgain.{message-text, own-text}

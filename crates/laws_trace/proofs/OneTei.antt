@@ -6,13 +6,12 @@ use Rattle.model_line.specs.Effect.{at_terminal, of_network, of_terminal, told_o
 use Rattle.model_line.specs.Line.{Own}
 use Rattle.model_line.specs.Machine as lines
 use Rattle.model_card.specs.Event as card_event
-use Rattle.lapd_tei.specs.Table.{is_on, place_of}
-use Rattle.lapd_tei.specs.Rows as rows
-use Rattle.lapd_tei.specs.Words.{freed}
-use Rattle.lapd_tei.specs.Events as teis
-use Rattle.lapd_terminal.specs.Machine.{Terminal}
-use Rattle.lapd_terminal.specs.Rows as terminal_rows
-use Rattle.lapd_terminal.specs.Events as terminals
+use Rattle.model_teis.specs.Table.{is_on, place_of, freed}
+use Rattle.model_teis.specs.network.Rows as rows
+use Rattle.model_teis.specs.network.Events as teis
+use Rattle.model_teis.specs.terminal.Machine.{Terminal}
+use Rattle.model_teis.specs.terminal.Rows as terminal_rows
+use Rattle.model_teis.specs.terminal.Events as terminals
 use Rattle.lapd_frame.specs.declared.refusals.Refusal.{Refusal}
 use Rattle.model_link.specs.Events as link
 use Rattle.model_line.specs.Line.{is_terminal, terminal_in, with_terminal}

@@ -3,8 +3,8 @@
 use Rattle.laws_trace.proofs.Vocabulary.{arith, ◌≡◌, ℕ, Bool, true, false, cond, List, slice_index, Result, Ok, Err, Some, sym, subst, Address, Side, Sender, Ui, ReadFault, BadExtension, Parts, side_spelling, spelling, checked, header_of, completed, side_reading, reading, named_by, fault_named, renamed, renamed-back, management-spelled, address-again, control-again, Control, Config, own_side}
 use Rattle.laws_trace.proofs.Vocabulary.{Message, message_frame, information_of, Option, ap, ◌∙◌}
 use Rattle.lapd_frame.specs.declared.addresses.Side.TheVariants.{User}
-use Rattle.lapd_terminal.specs.declared.messages.Message.{Message as OwnMessage}
-use Rattle.lapd_terminal.specs.Messages.{frame_of as own_frame_of, information_of as own_information_of}
+use Rattle.model_teis.specs.declared.terminal.messages.Message.{Message as OwnMessage}
+use Rattle.model_teis.specs.terminal.Messages.{frame_of as own_frame_of, information_of as own_information_of}
 use Rattle.model_line.specs.Line.{is_at, is_terminal}
 
 module _ (side : Side) (P : Result Parts ReadFault → Type 0) (a : Address) (c : Control) (ok : (info : List ℕ) → P (Ok (record { address = a; control = c; info = info })))

@@ -3,7 +3,7 @@ use Rattle.laws_trace.proofs.Vocabulary.{◌≡◌, ℕ, ◌&&◌, ◌||◌, ◌
 use Rattle.laws_trace.proofs.Vocabulary.{is_full, refusal, fresh, after_all, AreAtLines, IsInRange, units_of, config-stays, length-map, unit_frame, Side, Refusal, Link, state_number, is_multiple_frame, is_up, view_of, outgoing_of}
 use Rattle.laws_trace.proofs.Vocabulary.{Service, IsSound, last_unit_tei, used, manages, has_management, Managed, managed_after, managing_is_on as is_on, CardEvent as Event, free_place, Request, request}
 use Rattle.lapd_frame.specs.declared.refusals.Refusal.TheVariants.{BadTei, NoLink, WrongState, TooLong, QueueFull, PoolFull, TeiTaken, TableFull}
-use Rattle.lapd_tei.specs.declared.check.Check as check
+use Rattle.model_teis.specs.declared.network.check.Check as check
 use Rattle.model_line.specs.Line.{is_at, is_terminal}
 use Rattle.model_line.specs.Sides.{is_network}
 use Rattle.model_line.specs.Sound.{IsOfSide}

@@ -1,12 +1,13 @@
 -- What TEI management of a terminal serves: of messages, what an observer of the line has it serve, and all else.
 use Rattle.laws_trace.proofs.Vocabulary.{◌≡◌, ℕ, Bool, true, false, cond, not, List, Option, true≢false, is_some, nat_lt, Refusal}
-use Rattle.lapd_terminal.specs.Events.{Event, message, step, told, unless_refused}
-unfoldable use Rattle.lapd_terminal.specs.Events.{course}
-use Rattle.lapd_terminal.specs.Machine.{Terminal}
-use Rattle.lapd_terminal.specs.Messages.{heard_in}
-use Rattle.lapd_terminal.specs.Rows as rows
-use Rattle.lapd_terminal.specs.Words.{Course, Step, begun, leave, end_procedure, nothing_happens}
-use Rattle.lapd_terminal.specs.declared.procedure.Procedure.{Procedure}
+use Rattle.model_teis.specs.terminal.Events.{Event, message, step, told, unless_refused}
+unfoldable use Rattle.model_teis.specs.terminal.Events.{course}
+use Rattle.model_teis.specs.terminal.Machine.{Terminal}
+use Rattle.model_teis.specs.terminal.Messages.{heard_in}
+use Rattle.model_teis.specs.terminal.Rows as rows
+use Rattle.model_teis.specs.Steps.{nothing_happens}
+use Rattle.model_teis.specs.terminal.Words.{Course, Step, begun, leave, end_procedure}
+use Rattle.model_teis.specs.declared.terminal.procedure.Procedure.{Procedure}
 use Rattle.laws_trace.specs.ManagingTerminal.{by_message}
 use Rattle.laws_trace.proofs.FollowsTerminal.{known, message-is, served, shown}
 use Rattle.laws_trace.proofs.TerminalTables.{IsOnce}

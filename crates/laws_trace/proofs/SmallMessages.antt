@@ -1,14 +1,15 @@
 -- The Ri of each message of TEI management that waits on a line has two octets.
 use Rattle.laws_trace.proofs.Vocabulary.{ℕ, ◌+◌, ◌*◌, ◌/◌, ◌%◌, ◌<◌, ◌==◌, ◌&&◌, Bool, cond, nat_le, List, [], ◌∷◌, ◌++◌, Option, Some, None, arith, All, All-nil, All-cons, All-head, All-tail, All-append, AreOctets, Management, Message, Check, Doubled, Refusal, IdentityAssigned, IdentityDenied, IdentityRemove, free_place, no_room, lose_one, send, unserved, leave, end_check}
 use Rattle.laws_trace.proofs.Vocabulary.{TeiCourse as Course, cond_both, tei_after, tei_begun, tei_message, tei_assign, tei_remove, tei_check, tei_disown, tei_refusal, tei_step, tei_unless_refused, TeiEvent, tei_course}
-use Rattle.lapd_tei.specs.Rows as rows
+use Rattle.model_teis.specs.network.Rows as rows
 use Rattle.lapd_frame.specs.Readings.{by_reading}
 use Rattle.lapd_frame.specs.declared.readings.Reading.{Reading}
-use Rattle.lapd_tei.specs.declared.messages.Message.TheVariants.{IdentityCheckRequest}
-use Rattle.lapd_tei.specs.Events.{expiry, down}
-use Rattle.lapd_tei.specs.Messages.{responses_in}
-use Rattle.lapd_tei.specs.Table.{free_tei}
-use Rattle.lapd_tei.specs.Words.{Step, check_is, note, nothing_happens, with_message}
+use Rattle.model_teis.specs.declared.network.messages.Message.TheVariants.{IdentityCheckRequest}
+use Rattle.model_teis.specs.network.Events.{expiry, down}
+use Rattle.model_teis.specs.network.Messages.{responses_in}
+use Rattle.model_teis.specs.Table.{free_tei}
+use Rattle.model_teis.specs.Steps.{nothing_happens}
+use Rattle.model_teis.specs.network.Words.{Step, check_is, note, with_message}
 
 abbrev pub ri_of : Message → ℕ
 ri_of (IdentityAssigned ri tei) = ri

@@ -9,10 +9,10 @@ use Rattle.lapd_frame.specs.declared.faults.ReadFault.{ReadFault}
 use Rattle.lapd_frame.specs.declared.overlong.Long.{Long}
 use Rattle.lapd_frame.specs.declared.readings.Reading.{Reading}
 use Rattle.model_line.specs.Heard.{aim_of_long}
-use Rattle.lapd_tei.specs.Events as teis
-use Rattle.lapd_tei.specs.Events.{down as tei_down}
-use Rattle.lapd_terminal.specs.Events as terminals
-use Rattle.lapd_terminal.specs.Events.{Event as TerminalEvent, after as terminal_after, told as terminal_told}
+use Rattle.model_teis.specs.network.Events as teis
+use Rattle.model_teis.specs.network.Events.{down as tei_down}
+use Rattle.model_teis.specs.terminal.Events as terminals
+use Rattle.model_teis.specs.terminal.Events.{Event as TerminalEvent, after as terminal_after, told as terminal_told}
 use Rattle.model_line.specs.Effect.{at_a_terminal, at_terminal, of_management, of_network, of_terminal, of_terminal_if, told_of_terminal, without_units}
 use Rattle.model_line.specs.Line.{Own, is_terminal, seed_of, terminal_in, with_terminal}
 use Rattle.model_line.specs.Taken.{message_taken, unit_taken, with_own_message}

@@ -2,19 +2,21 @@
 use Rattle.laws_trace.proofs.Vocabulary.{ℕ, ◌+◌, ◌<◌, ◌==◌, Bool, true, false, cond, List, [], ◌∷◌, ◌++◌, Option, Some, None, arith, All, All-nil, All-cons, All-append, cond_both, fold, nat_lt, is_on, free_place, Refusal}
 use Rattle.std.proofs.lemmas.List.Elements.{All-filter, All-set}
 use Rattle.std.specs.List.{position}
-use Rattle.lapd_terminal.specs.Events.{Event, after, message, expiry, assign, remove, down, refusal, unless_refused}
-use Rattle.lapd_terminal.specs.Events.{ask as asking, verify as verifying}
-unfoldable use Rattle.lapd_terminal.specs.Events.{course}
-use Rattle.lapd_terminal.specs.Machine.{Terminal}
-use Rattle.lapd_terminal.specs.Messages.{heard_in, heard_of_type}
-use Rattle.lapd_terminal.specs.Rows as rows
-use Rattle.lapd_terminal.specs.Rows.{answered, take_off, end_if_any, withdraw_all}
-use Rattle.lapd_terminal.specs.Words.{Course, Step, begun, ◌then◌, put_at, with_request, with_verify, is_request, is_response, is_other, is_verified, end_procedure, nothing_happens, send_response, leave, ask, verify, join, unserved}
-use Rattle.lapd_terminal.specs.declared.messages.Message.{Message}
-use Rattle.lapd_terminal.specs.declared.messages.Message.TheVariants.{IdentityRequest, IdentityCheckResponse, IdentityVerify}
-use Rattle.lapd_terminal.specs.declared.procedure.Procedure.{Procedure}
-use Rattle.lapd_terminal.specs.declared.procedure.Procedure.TheVariants.{Asking, Verifying}
-use Rattle.lapd_terminal.proofs.SoundWords.{number_low}
+use Rattle.model_teis.specs.terminal.Events.{Event, after, message, expiry, assign, remove, down, refusal, unless_refused}
+use Rattle.model_teis.specs.terminal.Events.{ask as asking, verify as verifying}
+unfoldable use Rattle.model_teis.specs.terminal.Events.{course}
+use Rattle.model_teis.specs.terminal.Machine.{Terminal}
+use Rattle.model_teis.specs.terminal.Messages.{heard_in, heard_of_type}
+use Rattle.model_teis.specs.Table.{named}
+use Rattle.model_teis.specs.terminal.Rows as rows
+use Rattle.model_teis.specs.terminal.Rows.{answered, take_off, end_if_any, withdraw_all}
+use Rattle.model_teis.specs.Steps.{◌then◌, nothing_happens}
+use Rattle.model_teis.specs.terminal.Words.{Course, Step, begun, put_at, with_request, with_verify, is_request, is_response, is_other, is_verified, end_procedure, send_response, leave, ask, verify, join, unserved}
+use Rattle.model_teis.specs.declared.terminal.messages.Message.{Message}
+use Rattle.model_teis.specs.declared.terminal.messages.Message.TheVariants.{IdentityRequest, IdentityCheckResponse, IdentityVerify}
+use Rattle.model_teis.specs.declared.terminal.procedure.Procedure.{Procedure}
+use Rattle.model_teis.specs.declared.terminal.procedure.Procedure.TheVariants.{Asking, Verifying}
+use Rattle.model_teis.proofs.OfTerminal.SoundWords.{number_low}
 
 abbrev pub ri_of : Message → ℕ
 ri_of (IdentityRequest ri) = ri
@@ -109,7 +111,7 @@ either-of : {X : Type 0} (f : X → Course) (b : Bool) (u v : X) → Small (f u)
 either-of f b u v x y = grind arith
 
 of-type : (type ri action : ℕ) (m : Terminal) → Small (begun m) → Small (rows.serve (heard_of_type type ri action) (begun m))
-of-type type ri action m h = grind (arith, either-of, begun, assigned, denied, checked, rows.named, removed)
+of-type type ri action m h = grind (arith, either-of, begun, assigned, denied, checked, named, removed)
 
 serves : (octets : List ℕ) (m : Terminal) → Small (begun m) → Small (rows.serve (heard_in octets) (begun m))
 serves octets m h = grind (arith, either-of, begun, of-type)

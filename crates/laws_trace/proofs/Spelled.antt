@@ -9,10 +9,10 @@ use Rattle.laws_trace.proofs.Units.{given-frames, none-told, none-requested}
 use Rattle.laws_trace.proofs.OfOctets.Seen.{begun_given}
 use Rattle.laws_trace.proofs.ReadAgain.{message-text, own-text}
 use Rattle.std.specs.Prelude.{Bool, cond}
-use Rattle.lapd_tei.specs.Events as teis
-use Rattle.lapd_terminal.specs.Events as terminals
-use Rattle.lapd_terminal.specs.declared.messages.Message.{Message as OwnMessage}
-use Rattle.lapd_terminal.specs.Messages.{frame_of as own_frame_of, information_of as own_information_of}
+use Rattle.model_teis.specs.network.Events as teis
+use Rattle.model_teis.specs.terminal.Events as terminals
+use Rattle.model_teis.specs.declared.terminal.messages.Message.{Message as OwnMessage}
+use Rattle.model_teis.specs.terminal.Messages.{frame_of as own_frame_of, information_of as own_information_of}
 use Rattle.model_line.specs.Line.{is_terminal, terminal_in}
 use Rattle.model_line.specs.Taken.{message_taken, unit_taken, with_own_message}
 

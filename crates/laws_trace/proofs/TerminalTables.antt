@@ -1,11 +1,11 @@
 -- The lists of a terminal, as an observer has them and as they are: its TEIs at their places, and its messages.
 use Rattle.laws_trace.proofs.Vocabulary.{◌≡◌, ℕ, suc, ◌+◌, ◌≤◌, ◌==◌, ◌||◌, Bool, true, false, cond, List, [], ◌∷◌, ◌++◌, length, set, Option, Some, None, refl, sym, ap, ◌∙◌, arith, eqb-true, true≢false, filter, list_any, is_some, nat_lt, option_map, IsAt, IsSoundTable, Places, is_free, has, free_place, place_of, freed}
 use Rattle.std.specs.List.{position}
-use Rattle.lapd_terminal.specs.declared.messages.Message.{Message}
-use Rattle.lapd_terminal.specs.declared.messages.Message.TheVariants.{IdentityRequest, IdentityCheckResponse, IdentityVerify}
-use Rattle.lapd_terminal.specs.declared.procedure.Procedure.{Procedure}
-use Rattle.lapd_tei.specs.Table as table
-use Rattle.lapd_terminal.specs.Words as words
+use Rattle.model_teis.specs.declared.terminal.messages.Message.{Message}
+use Rattle.model_teis.specs.declared.terminal.messages.Message.TheVariants.{IdentityRequest, IdentityCheckResponse, IdentityVerify}
+use Rattle.model_teis.specs.declared.terminal.procedure.Procedure.{Procedure}
+use Rattle.model_teis.specs.Table as table
+use Rattle.model_teis.specs.terminal.Words as words
 use Rattle.laws_trace.specs.ManagingTerminal as seen
 use Rattle.laws_trace.proofs.ManagingTables.{AreOn, taken, times, none-else, none-times}
 

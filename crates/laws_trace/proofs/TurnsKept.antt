@@ -7,7 +7,7 @@ use Rattle.model_line.specs.Requested.{aim_of_request}
 use Rattle.model_line.specs.Machine.{unless_refused}
 use Rattle.model_line.specs.Refusal.{refusal}
 use Rattle.laws_line.proofs.Changes.{Turn, turned, turned-there}
-use Rattle.lapd_tei.specs.Machine.{Management}
+use Rattle.model_teis.specs.network.Machine.{Management}
 use Rattle.model_line.specs.Effect.{at_terminal}
 use Rattle.model_line.specs.Event.{LineTold}
 use Rattle.model_line.specs.Line.{Own}

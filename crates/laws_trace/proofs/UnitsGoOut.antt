@@ -1,5 +1,5 @@
 -- Unit data goes out: the laws.
-use Rattle.lapd_terminal.specs.Messages.{information_of as own_information_of}
+use Rattle.model_teis.specs.terminal.Messages.{information_of as own_information_of}
 use Rattle.laws_trace.proofs.Vocabulary.{◌≡◌, ℕ, ◌<◌, ◌≤◌, List, [], ◌++◌, map, sym, ap, ◌∙◌, subst, get_or-replicate, Config, Line, fresh_line, unit_frame, most_frames, line_at, fresh_is_sound, AreTakesAt, takes_at, refl, arith, true, false, ◌||◌, Option, Some, None, option_map, list_any, inl, inr, sapi_of, next, next_of, gave, Taken, taken, IsIdle, IsOwed, contents_of_link, served, at}
 use Rattle.laws_trace.proofs.Vocabulary.{config-stays, Bool, filter, Parts, fresh, CardEvent as Event, after_all, AreAtLines, trace_frame_in as frame_in, trace_of, IsFront, Always, reads, is_ui, is_unit, units_of, UnitsGoOut, AllUnitsGoOut, information_of, IsInRange, IsSound, card_answer as answer, sapi-small, moments, own_side}
 use Rattle.laws_trace.proofs.Runs.{run-shows}

@@ -49,25 +49,27 @@ pub use Rattle.lapd_seq.proofs.Callers.{is_seq, seq-value}
 unfoldable pub use Rattle.lapd_seq.specs.Circle.{distance_of, named}
 unfoldable pub use Rattle.lapd_seq.specs.Numbers.{seq}
 pub use Rattle.lapd_seq.specs.declared.numbers.Seq.{Seq}
-pub use Rattle.lapd_tei.proofs.Followed.{t201_follows}
-pub use Rattle.lapd_tei.proofs.LawLemmas.{changes_are_told, sound-after}
-pub use Rattle.lapd_tei.proofs.Tables.{at-within, free_place-is, free_tei-is, is_on-at, not_not, on-range, place_of-is}
-unfoldable pub use Rattle.lapd_tei.specs.Events.{course as tei_course, refusal as tei_refusal}
-pub use Rattle.lapd_tei.specs.Events.{Event as TeiEvent, after as tei_after, assign as tei_assign, check as tei_check, disown as tei_disown, message as tei_message, refusal_if as tei_refusal_if, remove as tei_remove, step as tei_step, told as tei_told, unless_refused as tei_unless_refused}
-pub use Rattle.lapd_tei.specs.Laws.{Follows, HasJoined, HasLeft, IsInRange as TeiIsInRange, Moves, stop_of}
-pub use Rattle.lapd_tei.specs.Machine.{Management, TeiTold}
-pub use Rattle.lapd_tei.specs.Messages.{action_of, frame_of as message_frame, heard_in, heard_of_type, information_of}
-pub use Rattle.lapd_tei.specs.Sound.{IsAt, IsSoundCheck, IsSoundTable}
-pub use Rattle.lapd_tei.specs.Table.{Places, free_place, has, is_free, is_in_use, is_on, means, place_of}
-pub use Rattle.lapd_tei.specs.Words.{Course as TeiCourse, begin_check, begun as tei_begun, end_check, freed, leave, lose_one, no_room, send, unserved, with_message as tei_with_message}
-pub use Rattle.lapd_tei.specs.declared.check.Check.{Check}
-pub use Rattle.lapd_tei.specs.declared.check.Period.{Period}
-pub use Rattle.lapd_tei.specs.declared.check.Period.TheVariants.{First, Second}
-pub use Rattle.lapd_tei.specs.declared.messages.Message.{Message}
-pub use Rattle.lapd_tei.specs.declared.messages.Message.TheVariants.{IdentityAssigned, IdentityDenied, IdentityRemove}
-pub use Rattle.lapd_tei.specs.declared.outcome.Change.{Change}
-pub use Rattle.lapd_tei.specs.declared.outcome.Change.TheVariants.{Gained, Left}
-pub use Rattle.lapd_tei.specs.declared.remembered.Remembered.{Remembered}
+pub use Rattle.model_teis.proofs.OfNetwork.Followed.{t201_follows}
+pub use Rattle.model_teis.proofs.OfNetwork.LawLemmas.{changes_are_told, sound-after}
+pub use Rattle.model_teis.proofs.Tables.{at-within, free_place-is, free_tei-is, is_on-at, not_not, on-range, place_of-is}
+unfoldable pub use Rattle.model_teis.specs.network.Events.{course as tei_course, refusal as tei_refusal}
+pub use Rattle.model_teis.specs.Refused.{refusal_if as tei_refusal_if}
+pub use Rattle.model_teis.specs.network.Events.{Event as TeiEvent, after as tei_after, assign as tei_assign, check as tei_check, disown as tei_disown, message as tei_message, remove as tei_remove, step as tei_step, told as tei_told, unless_refused as tei_unless_refused}
+pub use Rattle.model_teis.specs.Changes.{HasJoined, HasLeft, Moves}
+pub use Rattle.model_teis.specs.network.Laws.{Follows, IsInRange as TeiIsInRange, stop_of}
+pub use Rattle.model_teis.specs.network.Machine.{Management, TeiTold}
+pub use Rattle.model_teis.specs.network.Messages.{action_of, frame_of as message_frame, heard_in, heard_of_type, information_of}
+pub use Rattle.model_teis.specs.Table.{IsAt, IsSoundTable, Places, free_place, has, is_free, is_in_use, is_on, means, place_of, freed}
+pub use Rattle.model_teis.specs.network.Sound.{IsSoundCheck}
+pub use Rattle.model_teis.specs.network.Words.{Course as TeiCourse, begin_check, begun as tei_begun, end_check, leave, lose_one, no_room, send, unserved, with_message as tei_with_message}
+pub use Rattle.model_teis.specs.declared.network.check.Check.{Check}
+pub use Rattle.model_teis.specs.declared.network.check.Period.{Period}
+pub use Rattle.model_teis.specs.declared.network.check.Period.TheVariants.{First, Second}
+pub use Rattle.model_teis.specs.declared.network.messages.Message.{Message}
+pub use Rattle.model_teis.specs.declared.network.messages.Message.TheVariants.{IdentityAssigned, IdentityDenied, IdentityRemove}
+pub use Rattle.model_teis.specs.declared.changes.Change.{Change}
+pub use Rattle.model_teis.specs.declared.changes.Change.TheVariants.{Gained, Left}
+pub use Rattle.model_teis.specs.declared.network.remembered.Remembered.{Remembered}
 pub use Rattle.laws_line.proofs.Asked.{link-grants}
 pub use Rattle.laws_line.proofs.Bounds.{to-go-few}
 pub use Rattle.model_line.proofs.Downs.{by-down}

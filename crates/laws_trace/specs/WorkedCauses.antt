@@ -11,7 +11,7 @@ use Rattle.lapd_frame.specs.Reading.{reading, header_of, control_of, unnumbered_
 use Rattle.lapd_frame.specs.Senders.{exchanged, reading as read_by}
 use Rattle.lapd_seq.specs.Circle.{named, distance_of}
 use Rattle.lapd_seq.specs.Numbers.{seq}
-use Rattle.lapd_tei.specs.Events as teis
+use Rattle.model_teis.specs.network.Events as teis
 use Rattle.model_line.specs.declared.config.Config.{Config}
 use Rattle.model_line.specs.Event as line_event
 use Rattle.model_line.specs.Event.{Answer, hears, request, told, nothing}

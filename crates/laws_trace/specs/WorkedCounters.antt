@@ -10,7 +10,7 @@ use Rattle.lapd_count.specs.declared.messages.MessageType.TheVariants.{IdentityR
 use Rattle.lapd_count.specs.Counters.{More, amount_in}
 use Rattle.lapd_frame.specs.Reading.{reading, header_of, control_of, unnumbered_of}
 use Rattle.lapd_frame.specs.Senders.{exchanged, reading as read_by}
-use Rattle.lapd_tei.specs.Events as teis
+use Rattle.model_teis.specs.network.Events as teis
 use Rattle.model_line.specs.declared.config.Config.{Config}
 use Rattle.model_line.specs.Event as line_event
 use Rattle.model_line.specs.Event.{hears, told, nothing}

@@ -10,7 +10,7 @@ use Rattle.lapd_frame.specs.declared.controls.Control.TheVariants.{Ui}
 use Rattle.lapd_frame.specs.Grammar.{Parts}
 use Rattle.lapd_frame.specs.Reading.{reading, header_of, control_of, unnumbered_of}
 use Rattle.lapd_frame.specs.Senders.{exchanged, reading as read_by, spelling}
-use Rattle.lapd_tei.specs.Events as teis
+use Rattle.model_teis.specs.network.Events as teis
 use Rattle.model_line.specs.Machine as lines
 use Rattle.model_card.specs.Card.{fresh}
 use Rattle.model_card.specs.Event.{Event}

@@ -7,8 +7,8 @@ use Rattle.lapd_frame.specs.declared.refusals.Refusal.{Refusal}
 use Rattle.lapd_frame.specs.declared.refusals.Refusal.TheVariants.{WrongSide, NoLink, TableFull, CheckRunning}
 use Rattle.lapd_frame.specs.Reading.{reading, header_of, control_of, unnumbered_of}
 use Rattle.lapd_frame.specs.Senders.{exchanged, reading as read_by}
-use Rattle.lapd_tei.specs.Events as teis
-use Rattle.lapd_terminal.specs.Events as terminals
+use Rattle.model_teis.specs.network.Events as teis
+use Rattle.model_teis.specs.terminal.Events as terminals
 use Rattle.model_line.specs.declared.config.Config.{Config}
 use Rattle.model_line.specs.Event as line_event
 use Rattle.model_line.specs.Event.{Answer, hears, request, refused}

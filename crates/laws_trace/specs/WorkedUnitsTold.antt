@@ -5,7 +5,7 @@ use Rattle.lapd_frame.specs.declared.notes.Note.TheVariants.{Unit}
 use Rattle.lapd_frame.specs.declared.services.Service.TheVariants.{Call}
 use Rattle.lapd_frame.specs.Reading.{reading, header_of, control_of, unnumbered_of}
 use Rattle.lapd_frame.specs.Senders.{exchanged, reading as read_by}
-use Rattle.lapd_tei.specs.Events as teis
+use Rattle.model_teis.specs.network.Events as teis
 use Rattle.model_line.specs.declared.config.Config.{Config}
 use Rattle.model_line.specs.Machine as lines
 use Rattle.model_line.specs.Request.{Assign}

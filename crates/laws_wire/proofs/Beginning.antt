@@ -4,11 +4,11 @@ use Rattle.laws_wire.proofs.Vocabulary.{place_of-is, table-put, table-empty, Lin
 use Rattle.laws_wire.proofs.Vocabulary.{told, Establish, Endpoint, answered, happens, told_by, endpoint, assigned, requested, LinkEstablish, line_answer, line_takes_slot, line_after, tei_unless_refused, tei_assign, tei_refusal, tei_course, given}
 use Rattle.std.specs.Prelude.{Bool, cond}
 use Rattle.lapd_frame.specs.declared.readings.Reading.{Reading}
-use Rattle.lapd_tei.specs.Words.{Course, begun as tei_begun}
-use Rattle.lapd_terminal.specs.Events as terminals
-unfoldable use Rattle.lapd_terminal.specs.Events.{course as terminal_course}
-use Rattle.lapd_terminal.specs.Rows as terminal_rows
-use Rattle.lapd_terminal.specs.Words as terminal_words
+use Rattle.model_teis.specs.network.Words.{Course, begun as tei_begun}
+use Rattle.model_teis.specs.terminal.Events as terminals
+unfoldable use Rattle.model_teis.specs.terminal.Events.{course as terminal_course}
+use Rattle.model_teis.specs.terminal.Rows as terminal_rows
+use Rattle.model_teis.specs.terminal.Words as terminal_words
 use Rattle.model_line.specs.Effect.{at_a_terminal, at_management, of_aim, of_network, of_terminal, of_terminal_if, told_of_terminal}
 use Rattle.model_line.specs.Line.{is_terminal, terminal_in, with_terminal}
 use Rattle.model_line.specs.Machine.{unless_refused, unless_refused_told}

@@ -29,7 +29,7 @@ module _ (service : Service) (c : Config) (ranged : IsInRange c) (l : Line) (pla
   some : 1 ≤ c.terminals
   some = (ranges_of c ranged).terminals.least
 
-  placed : Rattle.lapd_tei.specs.Table.place_of 64 (lines.first c.terminals) ≡ Some 0
+  placed : Rattle.model_teis.specs.Table.place_of 64 (lines.first c.terminals) ≡ Some 0
   placed =
       let many : length (frees c.terminals) ≡ c.terminals = length-replicate c.terminals None in
       has-place (lines.first c.terminals) 64 0
@@ -38,7 +38,7 @@ module _ (service : Service) (c : Config) (ranged : IsInRange c) (l : Line) (pla
 
   speaks : Speaks c service 64 0 fresh l
   speaks = record {
-    placed = ap (Rattle.lapd_tei.specs.Table.place_of 64) places ∙ placed;
+    placed = ap (Rattle.model_teis.specs.Table.place_of 64) places ∙ placed;
     messages = none.messages;
     units = none.units;
     silent = λ number low other. ap (given (terms_at c number l)) (none.links number) ∙ fresh_gives_nothing (terms_at c number l);

@@ -16,25 +16,27 @@ use Rattle.lapd_frame.specs.declared.readings.Reading.{Reading}
 use Rattle.lapd_frame.specs.declared.readings.Reading.TheVariants.{Profile, AnnexB}
 use Rattle.lapd_frame.specs.Readings.{by_reading}
 use Rattle.lapd_frame.proofs.Naming.{management-spelled}
-use Rattle.lapd_tei.specs.Events as teis
-use Rattle.lapd_tei.specs.declared.messages.Message.TheVariants as sent
-use Rattle.lapd_tei.specs.declared.outcome.Change.TheVariants.{Gained}
-use Rattle.lapd_tei.specs.Machine.{Management}
-use Rattle.lapd_tei.specs.Messages as messages
-use Rattle.lapd_tei.specs.Rows as tei_rows
-use Rattle.lapd_tei.specs.Table.{automatic, is_off, free_tei}
-use Rattle.lapd_tei.specs.Words as tei_words
-use Rattle.lapd_terminal.specs.Events as terminals
-unfoldable use Rattle.lapd_terminal.specs.Events.{course as terminal_course}
-use Rattle.lapd_terminal.specs.declared.messages.Message.TheVariants as own_sent
-use Rattle.lapd_terminal.specs.declared.outcome.News.TheVariants as news
-use Rattle.lapd_terminal.specs.declared.outcome.T202Order.TheVariants as t202
-use Rattle.lapd_terminal.specs.declared.procedure.Procedure.TheVariants.{Asking}
-use Rattle.lapd_terminal.specs.Machine as terminals_machine
-use Rattle.lapd_terminal.specs.Messages as own_messages
-use Rattle.lapd_terminal.specs.Numbers.{next_number}
-use Rattle.lapd_terminal.specs.Rows as terminal_rows
-use Rattle.lapd_terminal.specs.Words as terminal_words
+use Rattle.model_teis.specs.Refused.{refusal_if}
+use Rattle.model_teis.specs.network.Events as teis
+use Rattle.model_teis.specs.declared.network.messages.Message.TheVariants as sent
+use Rattle.model_teis.specs.declared.changes.Change.TheVariants.{Gained}
+use Rattle.model_teis.specs.network.Machine.{Management}
+use Rattle.model_teis.specs.Information.{information}
+use Rattle.model_teis.specs.network.Messages as messages
+use Rattle.model_teis.specs.network.Rows as tei_rows
+use Rattle.model_teis.specs.Table.{automatic, is_off, free_tei}
+use Rattle.model_teis.specs.network.Words as tei_words
+use Rattle.model_teis.specs.terminal.Events as terminals
+unfoldable use Rattle.model_teis.specs.terminal.Events.{course as terminal_course}
+use Rattle.model_teis.specs.declared.terminal.messages.Message.TheVariants as own_sent
+use Rattle.model_teis.specs.declared.terminal.told.News.TheVariants as news
+use Rattle.model_teis.specs.declared.terminal.told.T202Order.TheVariants as t202
+use Rattle.model_teis.specs.declared.terminal.procedure.Procedure.TheVariants.{Asking}
+use Rattle.model_teis.specs.terminal.Machine as terminals_machine
+use Rattle.model_teis.specs.terminal.Messages as own_messages
+use Rattle.model_teis.specs.terminal.Numbers.{next_number}
+use Rattle.model_teis.specs.terminal.Rows as terminal_rows
+use Rattle.model_teis.specs.terminal.Words as terminal_words
 use Rattle.laws_line.specs.Served.{HasNoMessage}
 use Rattle.laws_line.proofs.Draining.{no-message-taken, same-after}
 use Rattle.model_bits.specs.declared.heard.Cause.TheVariants.{Unserved}
@@ -62,7 +64,7 @@ terminal-side c own = user-is c.side c.seed own
 -- ---- the frames
 
 abbrev pub parts : ℕ → ℕ → ℕ → Parts
-parts ri type action = record { address = record { sapi = 63; command = true; tei = 127 }; control = Ui false; info = messages.information ri type action }
+parts ri type action = record { address = record { sapi = 63; command = true; tei = 127 }; control = Ui false; info = information ri type action }
 
 abbrev pub requested : ℕ → Parts
 requested ri = parts ri 1 127
@@ -126,7 +128,7 @@ module _ (c : Config) (own : is_terminal c ≡ true) (ranged : IsInRange c) wher
 
   asked-course : terminal_course terminals.ask (terminal_in (fresh_line c)) ≡ terminal_words.ask 1 (terminal_words.begun (terminal_in (fresh_line c)))
   unfolding terminal_course
-  asked-course = ap (λ o. terminals.unless_refused (teis.refusal_if (not (is_some o)) TableFull None) (terminal_words.ask 1) (terminal_in (fresh_line c))) (free-is c.terminals some)
+  asked-course = ap (λ o. terminals.unless_refused (refusal_if (not (is_some o)) TableFull None) (terminal_words.ask 1) (terminal_in (fresh_line c))) (free-is c.terminals some)
 
   asks-effect : of_aim c (at_terminal terminals.ask) (fresh_line c) ≡ record { line = asked c; told = record nothing { orders = orders.Start T202 ∷ [] } }
   asks-effect = ap (λ x. by_course c x (fresh_line c)) asked-course
@@ -151,7 +153,7 @@ module _ (c : Config) (own : is_terminal c ≡ true) (ranged : IsInRange c) wher
   request-spelled : own_messages.frame_of (own_sent.IdentityRequest (seed_of c)) ≡ spelling (own_side c) (requested (seed_of c))
   request-spelled =
       ap (λ side. grammar.spelling side (requested (seed_of c))) (sym (terminal-side c own))
-      ∙ management-spelled (own_side c) true 127 (Ui false) (messages.information (seed_of c) 1 127)
+      ∙ management-spelled (own_side c) true 127 (Ui false) (information (seed_of c) 1 127)
 
   pub goes-after : line_after c next (asked c) ≡ waits c
   unfolding line_after
@@ -193,7 +195,7 @@ module _ (reading : Reading) (ri n : ℕ) (some : 1 ≤ n) where
   anew Profile is x = rw is refl
   anew AnnexB is x = rw is refl
 
-  served : tei_course (teis.message (messages.information ri 1 127)) (empty reading n) ≡ served_course
+  served : tei_course (teis.message (information ri 1 127)) (empty reading n) ≡ served_course
   unfolding tei_course tei_refusal
   served = anew reading refl (256 * (ri / 256) + ri % 256) ∙ serves (256 * (ri / 256) + ri % 256) (same-ri ri)
 
@@ -215,7 +217,7 @@ module _ (reading : Reading) (ri n : ℕ) (some : 1 ≤ n) where
         ∙ ap (λ b. cond (not b) (terminal_rows.take_at 64 (free_place (frees n))) terminal_words.unserved (terminal_words.begun asking)) (none-on 64 n)
         ∙ ap (λ o. terminal_rows.take_at 64 o (terminal_words.begun asking)) (free-is n some)
 
-    took : terminal_course (terminals.message (messages.information ri 2 64)) asking ≡ taken_course
+    took : terminal_course (terminals.message (information ri 2 64)) asking ≡ taken_course
     unfolding terminal_course
     took = takes (256 * (ri / 256) + ri % 256) (same-ri ri)
 
@@ -224,7 +226,7 @@ module _ (reading : Reading) (ri n : ℕ) (some : 1 ≤ n) where
 module _ (c : Config) (l : Line) (long : 8 ≤ c.n201) (ri type action : ℕ) (octets : List ℕ) (whole : came c.n201 octets ≡ frame octets)
     (read : reading (heard_side c) octets ≡ Ok (parts ri type action)) where
   abbrev its_event : teis.Event
-  its_event = teis.message (messages.information ri type action)
+  its_event = teis.message (information ri type action)
 
   comes-to : managed_at c (parts ri type action) c.side its_event ≡ at_management its_event → of_heard c (came c.n201 octets) l ≡ of_management c its_event l
   comes-to managed =
@@ -237,7 +239,7 @@ module _ (c : Config) (l : Line) (long : 8 ≤ c.n201) (ri type action : ℕ) (o
       comes-to (ap (λ s. managed_at c (parts ri type action) s its_event) side)
       ∙ ap (λ s. cond (is_at s c.seed) (of_terminal_if c (at_a_terminal its_event) l) (of_network c its_event l)) side
 
-  to-terminal : is_terminal c ≡ true → of_heard c (came c.n201 octets) l ≡ of_terminal c (terminals.message (messages.information ri type action)) l
+  to-terminal : is_terminal c ≡ true → of_heard c (came c.n201 octets) l ≡ of_terminal c (terminals.message (information ri type action)) l
   to-terminal own =
       comes-to (ap (λ s. managed_at c (parts ri type action) s its_event) (terminal-side c own)
       ∙ ap (λ b. cond (b && true) (at_management its_event) (at_none (dropped Unserved))) own)
@@ -289,7 +291,7 @@ module _ (d : Config) (side : d.side ≡ Network) (ri : ℕ) where
       (option_or (unit_taken d l) (first_taken d l (round d l)))) side
 
   answer-spelled : messages.frame_of d.side (sent.IdentityAssigned ri 64) ≡ spelling (own_side d) (answered ri)
-  answer-spelled = management-spelled (own_side d) true 127 (Ui false) (messages.information ri 2 64)
+  answer-spelled = management-spelled (own_side d) true 127 (Ui false) (information ri 2 64)
 
   pub gives-after : line_after d next l ≡ gave_it ri d
   unfolding line_after

@@ -1,7 +1,7 @@
 -- The premises of the law that a terminal comes through are met by the worked run, in which the network calls.
 use Rattle.laws_wire.proofs.Vocabulary.{◌≡◌, ◌+◌, ◌*◌, false, if◌then◌else◌, subst, refl, arith, All, [], ◌∷◌, Call, exchanged, reading, side_reading, header_of, control_of, unnumbered_of, supervisory_of, IsCall, CanCall, doing_all, turns, IsStill, network, confirmed, told_first, all_told, granted_of, line_answer, line_takes_slot, line_after, tei_refusal, tei_course}
 use Rattle.model_line.specs.Config.{sapi_fault}
-unfoldable use Rattle.lapd_terminal.specs.Events.{course as terminal_course}
+unfoldable use Rattle.model_teis.specs.terminal.Events.{course as terminal_course}
 use Rattle.laws_wire.specs.Arriving.{SendsOrReceives}
 use Rattle.laws_wire.specs.Terminals.{assigned_told, AreToldWithin}
 use Rattle.laws_wire.specs.WorkedTerminals.{terminal, asks, gets_tei, has_tei, near_has, talks, called, one_calls}

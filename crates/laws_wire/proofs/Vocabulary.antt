@@ -33,15 +33,13 @@ pub use Rattle.lapd_seq.proofs.Callers.{seq-value}
 unfoldable pub use Rattle.lapd_seq.specs.Circle.{distance_of, named}
 unfoldable pub use Rattle.lapd_seq.specs.Numbers.{seq}
 pub use Rattle.lapd_seq.specs.declared.numbers.Seq.{Seq}
-pub use Rattle.lapd_tei.proofs.SoundWords.{table-empty}
-pub use Rattle.lapd_tei.proofs.Tables.{is_on-at, place_of-is, table-put}
-unfoldable pub use Rattle.lapd_tei.specs.Events.{course as tei_course, refusal as tei_refusal}
-pub use Rattle.lapd_tei.specs.Events.{assign as tei_assign, unless_refused as tei_unless_refused}
-pub use Rattle.lapd_tei.specs.Machine.{empty}
-pub use Rattle.lapd_tei.specs.Rows.{join_at, put_on}
-pub use Rattle.lapd_tei.specs.Sound.{IsAt}
-pub use Rattle.lapd_tei.specs.Table.{Places, free_place, is_on}
-pub use Rattle.lapd_tei.specs.Words.{join}
+pub use Rattle.model_teis.proofs.Tables.{table-empty, is_on-at, place_of-is, table-put}
+unfoldable pub use Rattle.model_teis.specs.network.Events.{course as tei_course, refusal as tei_refusal}
+pub use Rattle.model_teis.specs.network.Events.{assign as tei_assign, unless_refused as tei_unless_refused}
+pub use Rattle.model_teis.specs.network.Machine.{empty}
+pub use Rattle.model_teis.specs.network.Rows.{join_at, put_on}
+pub use Rattle.model_teis.specs.Table.{IsAt, Places, free_place, is_on}
+pub use Rattle.model_teis.specs.network.Words.{join}
 pub use Rattle.laws_line.proofs.Asked.{link-grants}
 pub use Rattle.laws_line.proofs.Managing.{by-two}
 pub use Rattle.laws_line.proofs.OfCard.Spelling.{IsNotShort, not-short}

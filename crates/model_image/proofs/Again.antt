@@ -5,7 +5,7 @@ use Rattle.std.specs.Option.{unwrap_or}
 use Rattle.std.specs.Prelude.{flat_map, map}
 use Rattle.std.proofs.lemmas.List.Elements.{AllZip-get_or}
 use Rattle.lapd_clock.specs.Timer.{Timer}
-use Rattle.lapd_tei.specs.Machine.{Management}
+use Rattle.model_teis.specs.network.Machine.{Management}
 use Rattle.model_bits.specs.Bits.{number_of}
 use Rattle.model_link.specs.Link.{Link, state_number}
 use Rattle.model_link.specs.Told.{runs}
@@ -18,7 +18,8 @@ use Rattle.model_timed.specs.Clock.{Clock}
 use Rattle.lapd_image.specs.Numbers.{number, list_of, contents}
 use Rattle.model_line.specs.ConfigImage.{config}
 use Rattle.model_link.specs.Image.{control_frame, counts, link}
-use Rattle.lapd_tei.specs.Image.{place, management}
+use Rattle.model_teis.specs.TableImage.{place}
+use Rattle.model_teis.specs.network.Image.{management}
 use Rattle.model_line.specs.Image.{own, unit, teis, link_if, link_numbered, line, timers}
 use Rattle.lapd_count.specs.Image.{counters}
 use Rattle.model_image.specs.Clocks.{moment, moments_at, moments, lengths, clock}

@@ -7,8 +7,8 @@ use Rattle.std.proofs.lemmas.Bool.{false≢true}
 use Rattle.std.proofs.lemmas.List.{length-replicate}
 use Rattle.std.proofs.lemmas.List.Elements.{All-nil, All-replicate}
 use Rattle.lapd_count.specs.Counters.{count, most, none_counted}
-use Rattle.lapd_tei.specs.Messages.{information_of}
-use Rattle.lapd_terminal.specs.Messages as terminals
+use Rattle.model_teis.specs.network.Messages.{information_of}
+use Rattle.model_teis.specs.terminal.Messages as terminals
 use Rattle.model_bits.specs.StuffingLaws.{AreOctets}
 use Rattle.model_link.specs.Link.{fresh}
 use Rattle.model_line.specs.declared.config.Config.{Config}

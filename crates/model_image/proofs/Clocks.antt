@@ -7,8 +7,8 @@ use Rattle.std.proofs.lemmas.List.Elements.{All-head, All-tail}
 use Rattle.lapd_clock.specs.Moments.{moment_of}
 use Rattle.lapd_clock.specs.Timer.{Timer, T200, T203, T201, T202, Service, Call, Packet, Lengths, AreInRange}
 use Rattle.lapd_clock.specs.Timers.{Expiry, is_of}
-use Rattle.lapd_tei.specs.Machine.{Management}
-use Rattle.lapd_tei.proofs.Tables.{place_of-is}
+use Rattle.model_teis.specs.network.Machine.{Management}
+use Rattle.model_teis.proofs.Tables.{place_of-is}
 use Rattle.model_link.specs.Told.{runs}
 use Rattle.model_link.specs.declared.timers.LinkTimer.{LinkTimer}
 use Rattle.model_link.specs.declared.timers.LinkTimer.TheVariants as running

@@ -6,25 +6,24 @@ use Rattle.std.proofs.lemmas.List.Elements.{All-drop, All-from_get_or}
 use Rattle.std.proofs.lemmas.List.FromFn.{length-range_with_len}
 use Rattle.lapd_frame.specs.declared.services.Service.{Service}
 use Rattle.lapd_frame.specs.declared.services.Service.TheVariants.{Call, Packet}
-use Rattle.lapd_tei.specs.Machine.{Management}
-use Rattle.lapd_tei.specs.Messages.{information_of}
-use Rattle.lapd_tei.specs.Sound as tei
-use Rattle.lapd_tei.specs.Sound.{IsAt}
-use Rattle.lapd_tei.specs.Table.{Places, is_on}
-use Rattle.lapd_tei.specs.declared.check.Check.{Check}
-use Rattle.lapd_tei.specs.declared.check.Period.{Period}
-use Rattle.lapd_tei.specs.declared.check.Period.TheVariants.{First, Second}
-use Rattle.lapd_tei.specs.declared.messages.Message.{Message}
-use Rattle.lapd_tei.specs.declared.messages.Message.TheVariants.{IdentityAssigned, IdentityDenied, IdentityCheckRequest, IdentityRemove}
-use Rattle.lapd_tei.specs.declared.remembered.Remembered.{Remembered}
-use Rattle.lapd_tei.proofs.Tables.{on-range}
-use Rattle.lapd_terminal.specs.Messages as terminals
-use Rattle.lapd_terminal.specs.Sound as terminal
-use Rattle.lapd_terminal.specs.declared.messages.Message.{Message as OwnMessage}
-use Rattle.lapd_terminal.specs.declared.messages.Message.TheVariants as own_message
-use Rattle.lapd_terminal.specs.declared.procedure.Procedure.{Procedure}
-use Rattle.lapd_terminal.specs.declared.procedure.Procedure.TheVariants.{Asking, Verifying}
-use Rattle.lapd_terminal.proofs.SoundWords.{room}
+use Rattle.model_teis.specs.network.Machine.{Management}
+use Rattle.model_teis.specs.network.Messages.{information_of}
+use Rattle.model_teis.specs.Table.{IsSoundTable, IsAt, Places, is_on}
+use Rattle.model_teis.specs.network.Sound as tei
+use Rattle.model_teis.specs.declared.network.check.Check.{Check}
+use Rattle.model_teis.specs.declared.network.check.Period.{Period}
+use Rattle.model_teis.specs.declared.network.check.Period.TheVariants.{First, Second}
+use Rattle.model_teis.specs.declared.network.messages.Message.{Message}
+use Rattle.model_teis.specs.declared.network.messages.Message.TheVariants.{IdentityAssigned, IdentityDenied, IdentityCheckRequest, IdentityRemove}
+use Rattle.model_teis.specs.declared.network.remembered.Remembered.{Remembered}
+use Rattle.model_teis.proofs.Tables.{on-range}
+use Rattle.model_teis.specs.terminal.Messages as terminals
+use Rattle.model_teis.specs.terminal.Sound as terminal
+use Rattle.model_teis.specs.declared.terminal.messages.Message.{Message as OwnMessage}
+use Rattle.model_teis.specs.declared.terminal.messages.Message.TheVariants as own_message
+use Rattle.model_teis.specs.declared.terminal.procedure.Procedure.{Procedure}
+use Rattle.model_teis.specs.declared.terminal.procedure.Procedure.TheVariants.{Asking, Verifying}
+use Rattle.model_teis.proofs.OfTerminal.SoundWords.{room}
 use Rattle.model_bits.specs.Bits.{bit_value, number_of}
 use Rattle.model_bits.specs.StuffingLaws.{AreOctets}
 use Rattle.model_bits.proofs.BitLemmas.{number_of-lt}
@@ -42,8 +41,9 @@ use Rattle.model_line.proofs.Ranges.{Ranges, ranges_of}
 use Rattle.lapd_image.specs.Numbers.{number, list_of, contents}
 use Rattle.model_line.specs.ConfigImage.{config_flags, seed, config}
 use Rattle.model_link.specs.Image.{control_frame, link_flags, counted_of, counts, link, IsSavedLink}
-use Rattle.lapd_tei.specs.Image.{place, remembered, period_number, check, management}
-use Rattle.lapd_terminal.specs.Image.{procedure}
+use Rattle.model_teis.specs.TableImage.{place}
+use Rattle.model_teis.specs.network.Image.{remembered, period_number, check, management}
+use Rattle.model_teis.specs.terminal.Image.{procedure}
 use Rattle.model_line.specs.Image.{own, service_bit, unit, teis, link_if, link_numbered, line, IsSavedLine}
 use Rattle.model_line.specs.Most.{most_teis, most_link}
 use Rattle.model_image.proofs.Fits.{Fits, fits-less, fits-nil, fits-cons, fits-append, fits-number, fits-each, fits-all, fits-list, HasContents, fits-contents, field-fits}
@@ -133,7 +133,7 @@ module _ (c : Config) (range : IsInRange c) where
   if-fits number (Some tei) l sound saved = link-fits (service_at number) tei l sound saved
 
 -- TEI management of the network's side
-remembered-fits : (places : Places) → tei.IsSoundTable places → (m : Remembered) → is_on m.tei places ≡ true → Fits 3 (remembered m)
+remembered-fits : (places : Places) → IsSoundTable places → (m : Remembered) → is_on m.tei places ≡ true → Fits 3 (remembered m)
 remembered-fits places sound m on =
     let low : m.tei ≤ 126 = on-range places m.tei sound on in
     fits-append 2 1 (number 2 m.ri) (m.tei ∷ []) (fits-number 2 m.ri) (fits-cons m.tei 0 [] (omega (arith, low)) (fits-nil 0))
@@ -142,7 +142,7 @@ period-small : (p : Period) → period_number p < 256
 period-small First = lit< tt
 period-small Second = lit< tt
 
-check-fits : (places : Places) → tei.IsSoundTable places → (o : Option Check) → IfSome o (tei.IsSoundCheck places) → Fits 4 (check o)
+check-fits : (places : Places) → IsSoundTable places → (o : Option Check) → IfSome o (tei.IsSoundCheck places) → Fits 4 (check o)
 check-fits places sound None ok = fits-cons 0 3 [] (lit< tt) (fits-nil 3)
 check-fits places sound (Some c) ok =
     let low : c.tei ≤ 126 = on-range places c.tei sound ok.on_line in
@@ -172,7 +172,7 @@ management-fits m sound dues octets =
     (fits-cons (number_of m.to_check) (1 + length m.waiting * 5) _ (bits-small m.to_check dues) messages)))
 
 -- and of a terminal
-procedure-fits : (places : Places) → tei.IsSoundTable places → (o : Option Procedure) → IfSome o (terminal.IsSoundProcedure places) → Fits 4 (procedure o)
+procedure-fits : (places : Places) → IsSoundTable places → (o : Option Procedure) → IfSome o (terminal.IsSoundProcedure places) → Fits 4 (procedure o)
 procedure-fits places sound None ok = fits-cons 0 3 [] (lit< tt) (fits-nil 3)
 procedure-fits places sound (Some (Asking ri attempts)) ok =
     fits-cons 1 3 _ (lit< tt) (fits-cons attempts 2 _ (omega (arith, ok.2)) (fits-number 2 ri))

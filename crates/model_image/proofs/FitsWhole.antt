@@ -19,7 +19,7 @@ use Rattle.model_line.specs.Stored.{slots_of}
 use Rattle.model_card.specs.Card.{Card, line_at}
 use Rattle.model_card.specs.Sound.{IsSound}
 use Rattle.model_card.proofs.Steps.{has_lines, line_sound as sound_line}
-use Rattle.lapd_tei.specs.Machine.{Management}
+use Rattle.model_teis.specs.network.Machine.{Management}
 use Rattle.model_timed.specs.Clock.{Clock}
 use Rattle.lapd_image.specs.Numbers.{number}
 use Rattle.model_line.specs.ConfigImage.{config}

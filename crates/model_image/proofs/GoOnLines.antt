@@ -7,10 +7,10 @@ use Rattle.std.proofs.lemmas.List.{length-set, get_or-set_same, get_or-set_other
 use Rattle.lapd_frame.specs.declared.refusals.Refusal.TheVariants.{WrongState, QueueFull}
 use Rattle.lapd_frame.specs.declared.services.Service.{Service}
 use Rattle.lapd_frame.specs.declared.services.Service.TheVariants.{Call, Packet}
-use Rattle.lapd_tei.specs.Events as teis
-use Rattle.lapd_tei.specs.declared.outcome.Change.{Change}
-use Rattle.lapd_tei.specs.declared.outcome.Change.TheVariants.{Gained, Left}
-use Rattle.lapd_terminal.specs.Events as terminals
+use Rattle.model_teis.specs.network.Events as teis
+use Rattle.model_teis.specs.declared.changes.Change.{Change}
+use Rattle.model_teis.specs.declared.changes.Change.TheVariants.{Gained, Left}
+use Rattle.model_teis.specs.terminal.Events as terminals
 use Rattle.model_link.specs.Events as link_event
 use Rattle.model_link.specs.Link.{Link, fresh}
 use Rattle.model_link.specs.Machine as links

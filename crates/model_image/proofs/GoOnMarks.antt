@@ -3,7 +3,7 @@ use Rattle.std.proofs.Common.{◌≡◌, ℕ, zero, suc, cond, List, [], ◌∷�
 use Rattle.std.specs.List.{AllZip}
 use Rattle.std.specs.Prelude.{All}
 use Rattle.std.proofs.lemmas.List.Elements.{All-head, All-tail}
-use Rattle.lapd_tei.specs.Machine.{Management}
+use Rattle.model_teis.specs.network.Machine.{Management}
 use Rattle.model_link.specs.Link.{state_number}
 use Rattle.model_line.specs.Line.{Line, fresh_line, place_at, tei_at}
 use Rattle.model_line.specs.Sound as line_sound

@@ -25,7 +25,7 @@ use Rattle.model_image.specs.Same.{AreSameClocks}
 use Rattle.lapd_count.specs.Image.{IsCounted}
 use Rattle.model_image.specs.Sound.{AreMarks, IsClockOf, AreMoments, AreChanges, IsSaved}
 use Rattle.lapd_image.proofs.Reading.{heads, tails, Reads, all-read, equal-read, number-read}
-use Rattle.lapd_tei.proofs.ImageRead.{bits-read}
+use Rattle.model_teis.proofs.OfNetwork.ImageRead.{bits-read}
 use Rattle.model_line.proofs.ConfigRead.{HasFitting, config-read}
 use Rattle.model_line.proofs.ImageRead.{IsWhole, line-read, counters-read}
 use Rattle.model_image.proofs.Clocks.{clock-read}

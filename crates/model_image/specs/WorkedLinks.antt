@@ -3,18 +3,18 @@ use Rattle.std.specs.Prelude.{◌≡◌, [], ◌∷◌, ◌++◌, replicate, Som
 use Rattle.lapd_seq.specs.Numbers.{seq}
 use Rattle.lapd_frame.specs.declared.controls.Control.TheVariants.{ReceiveReady}
 use Rattle.lapd_frame.specs.declared.readings.Reading.TheVariants.{Profile}
-use Rattle.lapd_tei.specs.Machine.{Management}
-use Rattle.lapd_tei.specs.declared.check.Period.TheVariants.{Second}
-use Rattle.lapd_tei.specs.declared.messages.Message.TheVariants.{IdentityAssigned}
-use Rattle.lapd_terminal.specs.declared.messages.Message.TheVariants as terminals
-use Rattle.lapd_terminal.specs.declared.procedure.Procedure.TheVariants.{Asking}
+use Rattle.model_teis.specs.network.Machine.{Management}
+use Rattle.model_teis.specs.declared.network.check.Period.TheVariants.{Second}
+use Rattle.model_teis.specs.declared.network.messages.Message.TheVariants.{IdentityAssigned}
+use Rattle.model_teis.specs.declared.terminal.messages.Message.TheVariants as terminals
+use Rattle.model_teis.specs.declared.terminal.procedure.Procedure.TheVariants.{Asking}
 use Rattle.model_link.specs.declared.states.State.TheVariants.{Established}
 use Rattle.model_link.specs.declared.timers.LinkTimer.TheVariants.{T200}
 use Rattle.model_link.specs.Link.{Link, fresh}
 use Rattle.model_line.specs.Line.{Own}
 use Rattle.lapd_image.specs.Numbers.{number}
 use Rattle.model_link.specs.Image.{link}
-use Rattle.lapd_tei.specs.Image.{management}
+use Rattle.model_teis.specs.network.Image.{management}
 use Rattle.model_line.specs.Image.{own}
 
 -- The link of a TEI that has just come to the line: state 4, and all else 0.

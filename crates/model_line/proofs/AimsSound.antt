@@ -2,8 +2,8 @@
 use Rattle.model_line.proofs.Vocabulary.{◌≡◌, ℕ, ◌<◌, [], ◌∷◌, ◌++◌, length, get_or, set, Option, Some, None, ap, sym, ◌∙◌, subst, arith, length-set, length-append, get_or-set_other, All-nil, All-cons, All-append, Moves, Management, IsAt, Change, Gained, Left, Call, Packet, fresh, Config, LineTold, Line, Own, is_terminal, link_number, link_at, place_at, Aim, at_none, at_link, at_management}
 use Rattle.model_line.proofs.Vocabulary.{at_terminal, at_units, at_no_link}
 use Rattle.model_line.proofs.Vocabulary.{without_units, of_change, of_management, of_terminal, of_aim, IsInRange, IsOfSide, IsSoundAt, IsSound, IsUnitData, TeiEvent, TerminalEvent, tei_down}
-use Rattle.lapd_tei.specs.Laws as tei_laws
-use Rattle.lapd_tei.specs.Sound as tei
+use Rattle.model_teis.specs.network.Laws as tei_laws
+use Rattle.model_teis.specs.network.Sound as tei
 use Rattle.model_line.proofs.LinksSound.{link_event_sound, with_both}
 use Rattle.model_line.proofs.Managed.{IsOwnEvent, by-managed, by-own-event}
 use Rattle.model_line.proofs.SoundParts.{with_links, with_units}

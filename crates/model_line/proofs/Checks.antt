@@ -1,7 +1,7 @@
 -- Checks of TEIs that are due: where none is.
 use Rattle.model_line.proofs.Vocabulary.{◌≡◌, ℕ, zero, suc, false, cond, length, replicate, get_or, refl, sym, ap, ◌∙◌, true≢false, length-replicate, list_any, sum_by, Profile, AnnexB, Reading, Management, IsUnused}
-use Rattle.lapd_tei.specs.Machine.{one_if, is_due, is_check_due}
-use Rattle.lapd_tei.specs.Sound as tei
+use Rattle.model_teis.specs.network.Machine.{one_if, is_due, is_check_due}
+use Rattle.model_teis.specs.network.Sound as tei
 
 -- of bits that are all off none is on,
 all-off : (n i : ℕ) → get_or (replicate n false) i false ≡ false

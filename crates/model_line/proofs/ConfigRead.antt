@@ -10,7 +10,7 @@ use Rattle.model_line.specs.Sides.{is_network}
 use Rattle.lapd_image.specs.Numbers.{number}
 use Rattle.model_line.specs.ConfigImage.{is_annex_b, config_flags, seed, config}
 use Rattle.lapd_image.proofs.Reading.{heads, tails, split, Reads, number-read}
-use Rattle.lapd_tei.proofs.ImageRead.{bits-read}
+use Rattle.model_teis.proofs.OfNetwork.ImageRead.{bits-read}
 
 -- a side, and a reading, by their bits
 abbrev side_from : Bool → Side

@@ -2,8 +2,8 @@
 use Rattle.model_line.proofs.Vocabulary.{◌≡◌, Bool, true, false, cond, length, List, [], ◌++◌, Option, None, option_map, replicate, sym, subst, arith, All-nil, Config, nothing, Effect, Order, order_of, Procedure, at_no_link, of_aim, of_network, of_terminal, without_units, Line, Own, is_terminal, Management, stop_of, down_gives_up, IsOfSide, IsSound, IsUnitData, tei_down}
 use Rattle.model_line.proofs.Vocabulary.{terminal_down}
 use Rattle.std.specs.Prelude.{option_to_list}
-use Rattle.lapd_terminal.specs.Words as terminals
-use Rattle.lapd_terminal.proofs.GivenUp.{given_up as terminal_given_up}
+use Rattle.model_teis.specs.terminal.Words as terminals
+use Rattle.model_teis.proofs.OfTerminal.GivenUp.{given_up as terminal_given_up}
 use Rattle.model_line.proofs.Checks.{still-unused}
 use Rattle.model_line.proofs.SoundParts.{with_units}
 

@@ -2,8 +2,8 @@
 use Rattle.model_line.proofs.Vocabulary.{arith, ◌≡◌, ℕ, Bool, true, false, cond, Option, Some, None, IsSome, refl, sym, ap, ◌∙◌, unwrap_or, set-get_or, none-some, Cause, Unserved, Service, fresh, Config, hears, told, may_send, cause_in, Line, link_number, link_in, with_link, terms, aim_of_heard, Effect, unserved_cause, told_of_link, of_link, of_change, of_management, of_network, of_terminal}
 use Rattle.model_line.proofs.Vocabulary.{of_terminal_if, at_a_terminal, is_terminal, terminal_in, with_terminal, told_of_terminal, LineTold, Change, Gained, Left, Terminal, TerminalEvent, TerminalTold, terminal_after, terminal_told, of_aim, unserved_leaves, LinkReceived, link_received, link_told}
 use Rattle.model_line.proofs.Vocabulary.{link_told_of, TeiEvent, tei_message, StreamEvent}
-use Rattle.lapd_tei.proofs.LawLemmas as tei_lemmas
-use Rattle.lapd_terminal.proofs.Told.{unserved_changes_nothing}
+use Rattle.model_teis.proofs.OfNetwork.LawLemmas as tei_lemmas
+use Rattle.model_teis.proofs.OfTerminal.Told.{unserved_changes_nothing}
 use Rattle.model_line.specs.Event.{dropped}
 use Rattle.model_line.specs.Machine as lines
 use Rattle.model_line.proofs.ProperAims.{heard_aims}

@@ -4,9 +4,9 @@ use Rattle.model_line.proofs.Vocabulary.{unless_refused}
 use Rattle.model_line.proofs.Vocabulary.{unless_refused_told, aim_of_heard, at_management, at_terminal, is_terminal, of_change, of_management, of_network, of_terminal, of_terminal_if, told_of_terminal, with_terminal, of_aim, refusal, Request, aim_of_request, IsInRange, IsSound, TeiEvent, Procedure, terminal_expiry, tei_refusal, tei_course, tei_expiry}
 use Rattle.model_link.specs.Requests as requests
 use Rattle.model_link.specs.declared.timers.LinkTimer.TheVariants as link_timer
-use Rattle.lapd_tei.specs.Words.{begun}
-use Rattle.lapd_tei.specs.declared.check.Check as checks
-use Rattle.lapd_terminal.specs.Words.{Course}
+use Rattle.model_teis.specs.network.Words.{begun}
+use Rattle.model_teis.specs.declared.network.check.Check as checks
+use Rattle.model_teis.specs.terminal.Words.{Course}
 use Rattle.model_line.proofs.AimsRise.{sends}
 use Rattle.model_line.proofs.AimsSound.{IsProper}
 use Rattle.model_line.proofs.LineRises.{event_costs, window_most}

@@ -3,7 +3,8 @@ use Rattle.model_line.proofs.Vocabulary.{◌≡◌, ◌≢◌, ℕ, ◌+◌, ◌
 use Rattle.model_line.proofs.Vocabulary.{timer_at}
 use Rattle.model_line.proofs.Vocabulary.{Management, IsAt, IsSoundTable, place_of, at-off, at-within, place_of-is, Config, runs_at, is_running, Line, Own, link_number, link_in, terms, with_link, eqb-true, T200, T203, fresh, IsSound, link_cleared, link_told}
 use Rattle.model_line.proofs.Numbers.{place_at-number, service_at-number, number_within}
-use Rattle.lapd_tei.specs.Laws as tei_laws
+use Rattle.model_teis.specs.Changes.{HasJoined, HasLeft}
+use Rattle.model_teis.specs.network.Laws as tei_laws
 use Rattle.model_line.proofs.Obeyed.{Steers, timer_of, as_it_was, steers-event, obeyed-append, service-same, services-equal, both-true}
 use Rattle.model_line.proofs.Places.{has-no-place, has-place, stays-placed}
 
@@ -127,7 +128,7 @@ module _ (c : Config) (l : Line) (s : IsSound c l) (m : Management) (own : Own) 
     filled = ap (λ ps. get_or ps place None) is ∙ get_or-set_same l.management.places place o None within
 
   -- a TEI comes: none of its timers ran, and none runs
-  module _ (tei place : ℕ) (joined : tei_laws.HasJoined l.management.places m.places tei place) where
+  module _ (tei place : ℕ) (joined : HasJoined l.management.places m.places tei place) where
     abbrev pub opened : Line
     opened = anew place (Some tei) joined.is_there joined.within
 
@@ -142,7 +143,7 @@ module _ (c : Config) (l : Line) (s : IsSound c l) (m : Management) (own : Own) 
     comes k s' n' = grind (arith, eqb-true, its-own, elsewhere, eq-eqb, some-same, none-some)
 
   -- a TEI leaves: its timers are stopped
-  module _ (tei place : ℕ) (gone : tei_laws.HasLeft l.management.places m.places tei place) where
+  module _ (tei place : ℕ) (gone : HasLeft l.management.places m.places tei place) where
     abbrev pub closed : Line
     closed = anew place None gone.is_free gone.within
 

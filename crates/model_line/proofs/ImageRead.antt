@@ -7,16 +7,17 @@ use Rattle.std.proofs.lemmas.List.Elements.{All-get_or}
 use Rattle.lapd_frame.specs.declared.services.Service.{Service}
 use Rattle.lapd_frame.specs.declared.services.Service.TheVariants.{Call, Packet}
 use Rattle.lapd_count.specs.declared.counters.Counters.{Counters}
-use Rattle.lapd_tei.specs.Machine.{Management}
-use Rattle.lapd_terminal.specs.declared.procedure.Procedure.{Procedure}
-use Rattle.lapd_terminal.specs.declared.procedure.Procedure.TheVariants.{Asking, Verifying}
-use Rattle.lapd_terminal.specs.Sound as terminals
+use Rattle.model_teis.specs.network.Machine.{Management}
+use Rattle.model_teis.specs.declared.terminal.procedure.Procedure.{Procedure}
+use Rattle.model_teis.specs.declared.terminal.procedure.Procedure.TheVariants.{Asking, Verifying}
+use Rattle.model_teis.specs.terminal.Sound as terminals
 use Rattle.model_link.specs.Link.{Link, fresh}
 use Rattle.model_line.specs.declared.config.Config.{Config}
 use Rattle.model_line.specs.Line.{Line, Own, UnitData, is_terminal, link_count, link_at, place_at, tei_at}
 use Rattle.model_line.specs.Sound.{IsSound, IsSoundAt, IsOfSide, IsUnitData}
 use Rattle.lapd_image.specs.Numbers.{number, list_of}
-use Rattle.lapd_tei.specs.Image.{HasRi, place}
+use Rattle.model_teis.specs.TableImage.{place}
+use Rattle.model_teis.specs.network.Image.{HasRi}
 use Rattle.model_line.specs.Image.{service_bit, unit, own, teis, link_if, link_numbered, line, IsSavedLine}
 use Rattle.model_line.specs.Same.{IsSameLine}
 use Rattle.lapd_count.specs.Image.{counters, IsCounted}
@@ -24,8 +25,8 @@ use Rattle.model_link.specs.Image.{IsSavedLink}
 use Rattle.model_link.specs.Same.{IsSameLink}
 use Rattle.lapd_image.proofs.Reading.{heads, tails, split, Reads, number-read, front-read, contents-read, equal-read, list-read}
 use Rattle.model_link.proofs.ImageRead.{small, link-read}
-use Rattle.lapd_tei.proofs.ImageRead.{places-read, management-read}
-use Rattle.lapd_terminal.proofs.ImageRead.{HasNumber, AreSameBeside, beside-read}
+use Rattle.model_teis.proofs.OfNetwork.ImageRead.{places-read, management-read}
+use Rattle.model_teis.proofs.OfTerminal.ImageRead.{HasNumber, AreSameBeside, beside-read}
 use Rattle.model_line.proofs.Numbers.{at, below, within-range}
 
 -- a service by its bit

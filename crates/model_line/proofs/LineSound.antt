@@ -2,7 +2,7 @@
 use Rattle.model_line.proofs.Vocabulary.{None, Bool, ap, sym, replicate, true, false, cond, ◌<◌, ◌%◌, refl, unwrap_or, IsOfSide, is_terminal, length-replicate, get_or-replicate, All-nil, arith, fresh, sound-empty, Config, Event, Line, link_count, fresh_line, after, taken, line_of, option_map_or, IsInRange, IsSound, IsUnitData, aim_of}
 use Rattle.model_line.proofs.AimsSound.{aim_sound}
 use Rattle.std.proofs.Math.Nat.{mod-lt}
-use Rattle.lapd_terminal.proofs.SoundWords.{sound_fresh as terminal_fresh}
+use Rattle.model_teis.proofs.OfTerminal.SoundWords.{sound_fresh as terminal_fresh}
 use Rattle.model_line.specs.Line.{seed_of}
 use Rattle.model_line.proofs.Numbers.{place_within}
 use Rattle.model_line.proofs.Ranges.{ranges_of}

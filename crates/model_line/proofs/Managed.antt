@@ -5,20 +5,20 @@ use Rattle.model_line.proofs.Vocabulary.{Config, Line, LineTold, Own, Effect, no
 use Rattle.model_line.proofs.Vocabulary.{Terminal, TerminalEvent, TerminalTold, T202Order, terminal_told, terminal_after, terminal_course}
 use Rattle.std.specs.Prelude.{option_to_list}
 use Rattle.lapd_frame.specs.Readings.{by_reading}
-use Rattle.lapd_tei.specs.Laws as tei_laws
-use Rattle.lapd_tei.specs.Sound as tei
-use Rattle.lapd_tei.proofs.LawLemmas as tei_lemmas
-use Rattle.lapd_tei.proofs.SoundWords.{memory-empty, queue-empty}
-use Rattle.lapd_tei.specs.Events as teis
-use Rattle.lapd_terminal.specs.Events as terminals
-use Rattle.lapd_terminal.specs.Laws as terminal_laws
-use Rattle.lapd_terminal.specs.Sound as terminal
-use Rattle.lapd_terminal.specs.Words.{Course, begun}
-use Rattle.lapd_terminal.specs.declared.outcome.T202Order.TheVariants as starts
-use Rattle.lapd_terminal.specs.Rows.{expire_procedure}
-use Rattle.lapd_terminal.proofs.Rising.{few_more_wait}
-use Rattle.lapd_terminal.proofs.Served.{leads}
-use Rattle.lapd_terminal.proofs.Told.{t202_follows, expired_t202_follows, unserved_changes_nothing}
+use Rattle.model_teis.specs.network.Laws as tei_laws
+use Rattle.model_teis.specs.network.Sound as tei
+use Rattle.model_teis.proofs.OfNetwork.LawLemmas as tei_lemmas
+use Rattle.model_teis.proofs.OfNetwork.SoundWords.{memory-empty, queue-empty}
+use Rattle.model_teis.specs.network.Events as teis
+use Rattle.model_teis.specs.terminal.Events as terminals
+use Rattle.model_teis.specs.terminal.Laws as terminal_laws
+use Rattle.model_teis.specs.terminal.Sound as terminal
+use Rattle.model_teis.specs.terminal.Words.{Course, begun}
+use Rattle.model_teis.specs.declared.terminal.told.T202Order.TheVariants as starts
+use Rattle.model_teis.specs.terminal.Rows.{expire_procedure}
+use Rattle.model_teis.proofs.OfTerminal.Rising.{few_more_wait}
+use Rattle.model_teis.proofs.OfTerminal.Served.{leads}
+use Rattle.model_teis.proofs.OfTerminal.Told.{t202_follows, expired_t202_follows, unserved_changes_nothing}
 use Rattle.model_line.specs.Event.{dropped}
 use Rattle.model_line.specs.Runs.{ArePlaced}
 use Rattle.model_line.proofs.Checks.{unused-due, unused-read}

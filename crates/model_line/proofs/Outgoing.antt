@@ -1,11 +1,11 @@
 -- A message of TEI management that goes out, of whatever side.
 use Rattle.model_line.proofs.Vocabulary.{◌≡◌, ℕ, ◌+◌, Bool, true, false, cond, List, [], length, drop, slice_get, Option, Some, None, option_map, IfSome, refl, sym, subst, arith, sound-after_offer, Management, Message, frame_of, Config, Line, Own, is_terminal, terminal_in, Taken, with_message, with_own_message, IsOfSide, IsSound, OwnMessage}
 use Rattle.model_line.proofs.Vocabulary.{own_frame_of}
-use Rattle.lapd_tei.specs.Events as teis
-use Rattle.lapd_tei.specs.Machine.{checks_due}
-use Rattle.lapd_tei.specs.Sound as tei
-use Rattle.lapd_terminal.specs.Events as terminals
-use Rattle.lapd_terminal.proofs.SoundWords.{sound_rest}
+use Rattle.model_teis.specs.network.Events as teis
+use Rattle.model_teis.specs.network.Machine.{checks_due}
+use Rattle.model_teis.specs.network.Sound as tei
+use Rattle.model_teis.specs.terminal.Events as terminals
+use Rattle.model_teis.proofs.OfTerminal.SoundWords.{sound_rest}
 use Rattle.model_line.specs.Taken.{message_taken}
 use Rattle.lapd_frame.specs.declared.addresses.Side.{Side}
 

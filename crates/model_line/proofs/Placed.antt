@@ -5,7 +5,7 @@ use Rattle.model_line.proofs.Vocabulary.{at_link, at_management, at_terminal, at
 use Rattle.std.proofs.lemmas.Bool.{false≢true}
 use Rattle.std.specs.List.{AllByRecursion}
 use Rattle.lapd_frame.specs.declared.timers.Order.TheVariants.{Start, Stop}
-use Rattle.lapd_tei.specs.Laws as tei_laws
+use Rattle.model_teis.specs.network.Laws as tei_laws
 use Rattle.model_link.specs.Told.{order_for}
 use Rattle.model_line.proofs.Downs.{down-sound}
 use Rattle.model_line.proofs.Following.{some-same}

@@ -7,7 +7,7 @@ use Rattle.model_line.proofs.Vocabulary.{LinkRequest, link_expired, link_receive
 use Rattle.lapd_frame.specs.declared.overlong.Long.{Long}
 use Rattle.lapd_frame.specs.Overlong.{is_unit}
 use Rattle.lapd_frame.specs.Senders.{long_reading}
-use Rattle.lapd_tei.specs.Laws as tei_laws
+use Rattle.model_teis.specs.network.Laws as tei_laws
 use Rattle.model_line.specs.Heard.{aim_of_long}
 use Rattle.model_line.proofs.AimsSound.{IsProper}
 use Rattle.model_line.proofs.Managed.{IsAsked, IsOwnEvent}

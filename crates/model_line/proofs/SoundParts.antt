@@ -1,7 +1,8 @@
 -- A line is sound by its parts: TEI management with the links, and the units that wait.
 use Rattle.model_line.proofs.Vocabulary.{arith, ◌≡◌, ℕ, ◌≤◌, ◌<◌, List, length, get_or, None, All, Link, fresh, Terms, Management, Config, Line, Own, UnitData, is_terminal, link_count, service_at, place_at, terms, terms_at, link_at, IsOfSide, IsSoundAt, IsSound, IsUnitData}
 use Rattle.model_link.specs.Sound as links
-use Rattle.lapd_tei.specs.Sound as tei
+use Rattle.model_teis.specs.Table.{IsAt}
+use Rattle.model_teis.specs.network.Sound as tei
 
 module _ (c : Config) (l : Line) (s : IsSound c l) where
   -- other units
@@ -16,6 +17,6 @@ module _ (c : Config) (l : Line) (s : IsSound c l) where
 
   -- What holds of a link that begins, and of each that is sound, holds of each link of the line.
   pub any_link : (n : ℕ) → n < link_count c → (P : Terms → Link → Type 0) → P (terms c (service_at n) 0) fresh
-      → ((number : ℕ) → tei.IsAt l.management.places (place_at n) number → links.IsSound (terms c (service_at n) number) (link_at n l) → P (terms c (service_at n) number) (link_at n l))
+      → ((number : ℕ) → IsAt l.management.places (place_at n) number → links.IsSound (terms c (service_at n) number) (link_at n l) → P (terms c (service_at n) number) (link_at n l))
       → P (terms_at c n l) (link_at n l)
   any_link n few P begins each = grind arith

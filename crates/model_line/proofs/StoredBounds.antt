@@ -4,10 +4,10 @@ use Rattle.model_line.proofs.Vocabulary.{total_length, unit_length, octets_by_li
 use Rattle.model_line.proofs.Vocabulary.{rises_held}
 use Rattle.lapd_frame.specs.Grammar.{spelling}
 use Rattle.model_link.specs.Link.{frame_of}
-use Rattle.lapd_tei.proofs.LawLemmas.{held-few}
-use Rattle.lapd_tei.specs.Machine.{held}
-use Rattle.lapd_terminal.specs.Machine as terminals
-use Rattle.lapd_terminal.proofs.SoundWords.{room}
+use Rattle.model_teis.proofs.OfNetwork.LawLemmas.{held-few}
+use Rattle.model_teis.specs.network.Machine.{held}
+use Rattle.model_teis.specs.terminal.Machine as terminals
+use Rattle.model_teis.proofs.OfTerminal.SoundWords.{room}
 use Rattle.model_line.specs.Stored.{held_most, octets_of}
 use Rattle.model_line.proofs.Checks.{nothing-held, unused-none}
 use Rattle.model_line.proofs.Numbers.{sum_bounded}

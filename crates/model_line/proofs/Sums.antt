@@ -4,7 +4,7 @@ use Rattle.model_line.proofs.Vocabulary.{tei_may_send, IsAt}
 use Rattle.model_line.proofs.Vocabulary.{Change, Gained, Left, at-within, Config}
 use Rattle.model_line.proofs.Vocabulary.{LineTold, Line, Own, fresh_line, link_number, link_count, service_at, link_in, terms, Aim, at_none, at_link, at_management, at_terminal, at_units, at_no_link, without_units, of_link, of_change, of_management, of_terminal, of_aim, IsInRange, IsSound, IsUnitData, All-nil, sum_of_links, LinkEvent, link_after, TeiEvent, TerminalEvent, tei_down}
 use Rattle.model_link.specs.Sound as link_sounds
-use Rattle.lapd_tei.specs.Laws as tei_laws
+use Rattle.model_teis.specs.network.Laws as tei_laws
 use Rattle.model_line.proofs.AimsSound.{IsProper}
 use Rattle.model_line.proofs.Managed.{IsOwnEvent, by-managed, by-own-event, more_of}
 use Rattle.model_line.proofs.SoundParts.{with_units}

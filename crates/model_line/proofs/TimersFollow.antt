@@ -6,7 +6,7 @@ use Rattle.model_line.proofs.Vocabulary.{Down, without_units, at_no_link, option
 use Rattle.model_line.proofs.AimsSound.{IsProper}
 use Rattle.model_line.proofs.ProperAims.{heard_aims, request_proper}
 use Rattle.model_line.proofs.TakenWalk.{next_walk}
-use Rattle.lapd_tei.specs.Laws as tei_laws
+use Rattle.model_teis.specs.network.Laws as tei_laws
 use Rattle.model_line.proofs.Managed.{IsOwnEvent, Step, by-expired-201, by-expired-202, by-managed, by-own-event, more_of}
 use Rattle.model_line.proofs.Outgoing.{without_message}
 use Rattle.model_line.proofs.Following.{each-timer, running-of, same-running, one-steered, management-stays, comes, goes, own-goes}

@@ -33,29 +33,29 @@ pub use Rattle.lapd_frame.specs.declared.timers.Order.{Order}
 pub use Rattle.lapd_frame.specs.declared.timers.Order.TheVariants.{Start, Stop}
 pub use Rattle.lapd_frame.specs.declared.timers.Timer.{Timer}
 pub use Rattle.lapd_frame.specs.declared.timers.Timer.TheVariants.{T200, T201, T202, T203}
-pub use Rattle.lapd_tei.proofs.Brief.{IsBrief, told_brief}
-pub use Rattle.lapd_tei.proofs.Followed.{expired_t201_follows, t201_follows}
-pub use Rattle.lapd_tei.proofs.GivenUp.{down_gives_up}
-pub use Rattle.lapd_tei.proofs.LawLemmas.{sound-after_offer, sound-empty}
-pub use Rattle.lapd_tei.proofs.Tables.{at-off, at-within, place_of-is}
-unfoldable pub use Rattle.lapd_tei.specs.Events.{course as tei_course, refusal as tei_refusal}
-pub use Rattle.lapd_tei.specs.Events.{Event as TeiEvent, after as tei_after, after_offer as tei_after_offer, down as tei_down, expiry as tei_expiry, message as tei_message, told as tei_told}
-pub use Rattle.lapd_tei.specs.Laws.{Follows, Moves, most_heard, stop_of}
-pub use Rattle.lapd_tei.specs.Machine.{Management, may_send as tei_may_send}
-pub use Rattle.lapd_tei.specs.Messages.{frame_of}
-pub use Rattle.lapd_tei.specs.Rows.{expire_check}
-pub use Rattle.lapd_tei.specs.Sound.{IsAt, IsSoundTable}
-pub use Rattle.lapd_tei.specs.Table.{Places, is_on, place_of}
-pub use Rattle.lapd_tei.specs.declared.messages.Message.{Message}
-pub use Rattle.lapd_tei.specs.declared.outcome.Change.{Change}
-pub use Rattle.lapd_tei.specs.declared.outcome.Change.TheVariants.{Gained, Left}
-pub use Rattle.lapd_terminal.specs.Events.{Event as TerminalEvent, after as terminal_after, after_offer as terminal_after_offer, down as terminal_down, expiry as terminal_expiry, told as terminal_told}
-unfoldable pub use Rattle.lapd_terminal.specs.Events.{course as terminal_course}
-pub use Rattle.lapd_terminal.specs.Machine.{Terminal, TerminalTold}
-pub use Rattle.lapd_terminal.specs.Messages.{frame_of as own_frame_of}
-pub use Rattle.lapd_terminal.specs.declared.messages.Message.{Message as OwnMessage}
-pub use Rattle.lapd_terminal.specs.declared.outcome.T202Order.{T202Order}
-pub use Rattle.lapd_terminal.specs.declared.procedure.Procedure.{Procedure}
+pub use Rattle.model_teis.proofs.OfNetwork.Brief.{IsBrief, told_brief}
+pub use Rattle.model_teis.proofs.OfNetwork.Followed.{expired_t201_follows, t201_follows}
+pub use Rattle.model_teis.proofs.OfNetwork.GivenUp.{down_gives_up}
+pub use Rattle.model_teis.proofs.OfNetwork.LawLemmas.{sound-after_offer, sound-empty}
+pub use Rattle.model_teis.proofs.Tables.{at-off, at-within, place_of-is}
+unfoldable pub use Rattle.model_teis.specs.network.Events.{course as tei_course, refusal as tei_refusal}
+pub use Rattle.model_teis.specs.network.Events.{Event as TeiEvent, after as tei_after, after_offer as tei_after_offer, down as tei_down, expiry as tei_expiry, message as tei_message, told as tei_told}
+pub use Rattle.model_teis.specs.Changes.{Moves}
+pub use Rattle.model_teis.specs.network.Laws.{Follows, most_heard, stop_of}
+pub use Rattle.model_teis.specs.network.Machine.{Management, may_send as tei_may_send}
+pub use Rattle.model_teis.specs.network.Messages.{frame_of}
+pub use Rattle.model_teis.specs.network.Rows.{expire_check}
+pub use Rattle.model_teis.specs.Table.{IsAt, IsSoundTable, Places, is_on, place_of}
+pub use Rattle.model_teis.specs.declared.network.messages.Message.{Message}
+pub use Rattle.model_teis.specs.declared.changes.Change.{Change}
+pub use Rattle.model_teis.specs.declared.changes.Change.TheVariants.{Gained, Left}
+pub use Rattle.model_teis.specs.terminal.Events.{Event as TerminalEvent, after as terminal_after, after_offer as terminal_after_offer, down as terminal_down, expiry as terminal_expiry, told as terminal_told}
+unfoldable pub use Rattle.model_teis.specs.terminal.Events.{course as terminal_course}
+pub use Rattle.model_teis.specs.terminal.Machine.{Terminal, TerminalTold}
+pub use Rattle.model_teis.specs.terminal.Messages.{frame_of as own_frame_of}
+pub use Rattle.model_teis.specs.declared.terminal.messages.Message.{Message as OwnMessage}
+pub use Rattle.model_teis.specs.declared.terminal.told.T202Order.{T202Order}
+pub use Rattle.model_teis.specs.declared.terminal.procedure.Procedure.{Procedure}
 pub use Rattle.model_bits.specs.Stream.{dropped, overlong, Event as StreamEvent, frame as stream_frame}
 pub use Rattle.model_bits.specs.declared.heard.Cause.{Cause}
 pub use Rattle.model_bits.specs.declared.heard.Cause.TheVariants.{Unserved}

@@ -4,7 +4,7 @@ use Rattle.model_bits.specs.Stream as stream
 use Rattle.lapd_frame.specs.declared.refusals.Refusal.{Refusal}
 use Rattle.lapd_frame.specs.declared.refusals.Refusal.TheVariants as refusals
 use Rattle.model_link.specs.Rises as links
-use Rattle.lapd_tei.specs.Machine as tei
+use Rattle.model_teis.specs.network.Machine as tei
 use Rattle.model_line.specs.declared.config.Config.{Config}
 use Rattle.model_line.specs.Event.{Event, hears, expiry, request, next, Answer, told, refused, gave}
 use Rattle.model_line.specs.Line.{Line, is_terminal, terms_at, link_at, link_in}

@@ -9,21 +9,21 @@ use Rattle.model_link.specs.Events as link
 use Rattle.model_link.specs.Link.{fresh}
 use Rattle.model_link.specs.Machine as links
 use Rattle.model_link.specs.Told as link_told
-use Rattle.lapd_tei.specs.Events as teis
-use Rattle.lapd_tei.specs.Machine as tei
+use Rattle.model_teis.specs.network.Events as teis
+use Rattle.model_teis.specs.network.Machine as tei
 use Rattle.lapd_frame.specs.declared.notes.Note.{Note}
 use Rattle.lapd_frame.specs.declared.notes.Note.TheVariants as notes
 use Rattle.lapd_frame.specs.declared.timers.Order.{Order}
 use Rattle.lapd_frame.specs.declared.timers.Order.TheVariants as orders
 use Rattle.lapd_frame.specs.declared.timers.Timer.TheVariants.{T202}
-use Rattle.lapd_terminal.specs.Events as terminals
-use Rattle.lapd_terminal.specs.Machine.{TerminalTold}
-use Rattle.lapd_terminal.specs.declared.outcome.News.{News}
-use Rattle.lapd_terminal.specs.declared.outcome.News.TheVariants as news
-use Rattle.lapd_terminal.specs.declared.outcome.T202Order.{T202Order}
-use Rattle.lapd_terminal.specs.declared.outcome.T202Order.TheVariants as t202
-use Rattle.lapd_tei.specs.declared.outcome.Change.{Change}
-use Rattle.lapd_tei.specs.declared.outcome.Change.TheVariants.{Gained, Left}
+use Rattle.model_teis.specs.terminal.Events as terminals
+use Rattle.model_teis.specs.terminal.Machine.{TerminalTold}
+use Rattle.model_teis.specs.declared.terminal.told.News.{News}
+use Rattle.model_teis.specs.declared.terminal.told.News.TheVariants as news
+use Rattle.model_teis.specs.declared.terminal.told.T202Order.{T202Order}
+use Rattle.model_teis.specs.declared.terminal.told.T202Order.TheVariants as t202
+use Rattle.model_teis.specs.declared.changes.Change.{Change}
+use Rattle.model_teis.specs.declared.changes.Change.TheVariants.{Gained, Left}
 use Rattle.model_line.specs.declared.config.Config.{Config}
 use Rattle.model_line.specs.Event.{LineTold, nothing}
 use Rattle.model_line.specs.Line.{Line, is_terminal, terminal_in, with_terminal, UnitData, link_number, link_in, with_link, terms}

@@ -7,8 +7,8 @@ use Rattle.model_link.specs.Events as link
 use Rattle.model_link.specs.Told.{runs}
 use Rattle.model_link.specs.declared.timers.LinkTimer.{LinkTimer}
 use Rattle.model_link.specs.declared.timers.LinkTimer.TheVariants as link_timer
-use Rattle.lapd_tei.specs.Events as teis
-use Rattle.lapd_terminal.specs.Events as terminals
+use Rattle.model_teis.specs.network.Events as teis
+use Rattle.model_teis.specs.terminal.Events as terminals
 use Rattle.model_line.specs.Event.{nothing}
 use Rattle.model_line.specs.Line.{Line, link_in, place_in}
 use Rattle.model_line.specs.Effect.{Aim, at_none, at_link, at_management, at_terminal}

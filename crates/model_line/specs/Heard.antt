@@ -19,7 +19,7 @@ use Rattle.lapd_frame.specs.declared.readings.Reading.{Reading}
 use Rattle.lapd_frame.specs.Senders.{reading, long_reading}
 use Rattle.lapd_frame.specs.Services.{service_of}
 use Rattle.model_link.specs.Events as link
-use Rattle.lapd_tei.specs.Events as teis
+use Rattle.model_teis.specs.network.Events as teis
 use Rattle.model_line.specs.declared.config.Config.{Config}
 use Rattle.model_line.specs.Event.{dropped}
 use Rattle.model_line.specs.Line.{Line, place_in}

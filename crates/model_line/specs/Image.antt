@@ -6,10 +6,11 @@ use Rattle.lapd_frame.specs.declared.services.Service.TheVariants.{Call, Packet}
 use Rattle.lapd_frame.specs.declared.timers.Timer.{Timer}
 use Rattle.lapd_frame.specs.declared.timers.Timer.TheVariants.{T201, T202}
 use Rattle.lapd_image.specs.Numbers.{list_of, contents}
-use Rattle.lapd_tei.specs.Image.{place, management}
-use Rattle.lapd_tei.specs.Messages.{information_of}
-use Rattle.lapd_terminal.specs.Image.{beside_table}
-use Rattle.lapd_terminal.specs.Messages as terminals
+use Rattle.model_teis.specs.TableImage.{place}
+use Rattle.model_teis.specs.network.Image.{management}
+use Rattle.model_teis.specs.network.Messages.{information_of}
+use Rattle.model_teis.specs.terminal.Image.{beside_table}
+use Rattle.model_teis.specs.terminal.Messages as terminals
 use Rattle.model_bits.specs.StuffingLaws.{AreOctets}
 use Rattle.model_link.specs.declared.timers.LinkTimer.{LinkTimer}
 use Rattle.model_link.specs.Image.{link, timer_of, IsSavedLink}

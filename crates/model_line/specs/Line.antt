@@ -8,11 +8,11 @@ use Rattle.lapd_frame.specs.declared.services.Service.TheVariants.{Call, Packet}
 use Rattle.model_link.specs.declared.counts.LinkCounts.{LinkCounts}
 use Rattle.model_link.specs.declared.terms.Terms.{Terms}
 use Rattle.model_link.specs.Link.{Link, fresh, state_number}
-use Rattle.lapd_tei.specs.Machine.{Management, empty, place}
-use Rattle.lapd_tei.specs.Table.{is_on}
-use Rattle.lapd_terminal.specs.Machine as terminals
-use Rattle.lapd_terminal.specs.declared.messages.Message.{Message}
-use Rattle.lapd_terminal.specs.declared.procedure.Procedure.{Procedure}
+use Rattle.model_teis.specs.network.Machine.{Management, empty, place}
+use Rattle.model_teis.specs.Table.{is_on}
+use Rattle.model_teis.specs.terminal.Machine as terminals
+use Rattle.model_teis.specs.declared.terminal.messages.Message.{Message}
+use Rattle.model_teis.specs.declared.terminal.procedure.Procedure.{Procedure}
 use Rattle.model_line.specs.declared.config.Config.{Config}
 
 -- Unit data that waits to be sent: to which terminals, and its contents.

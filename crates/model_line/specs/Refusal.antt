@@ -5,8 +5,8 @@ use Rattle.lapd_frame.specs.declared.refusals.Refusal.{Refusal}
 use Rattle.lapd_frame.specs.declared.refusals.Refusal.TheVariants.{BadTei, NoLink, WrongState, TooLong, QueueFull, PoolFull, TeiTaken, TableFull, CheckRunning, ControlFull, WrongSide}
 use Rattle.model_link.specs.Events as link
 use Rattle.model_link.specs.Requests.{serves, is_queue_full}
-use Rattle.lapd_tei.specs.Machine.{messages_limit}
-use Rattle.lapd_tei.specs.Table.{free_place, is_in_use}
+use Rattle.model_teis.specs.network.Machine.{messages_limit}
+use Rattle.model_teis.specs.Table.{free_place, is_in_use}
 use Rattle.model_line.specs.declared.config.Config.{Config}
 use Rattle.model_line.specs.Request.{Request, Establish, Release, Data, Unit, Assign, Remove, Check, Disown, AskTei, VerifyTei, SetBusy, ClearBusy, Deactivate, Down}
 use Rattle.model_line.specs.Sides.{last_unit_tei, has_management, is_network}

@@ -9,7 +9,7 @@ use Rattle.lapd_frame.specs.declared.notes.Note.TheVariants as notes
 use Rattle.lapd_frame.specs.declared.services.Service.{Service}
 use Rattle.lapd_frame.specs.Grammar.{Parts}
 use Rattle.lapd_frame.specs.Services.{service_of}
-use Rattle.lapd_tei.specs.Events as teis
+use Rattle.model_teis.specs.network.Events as teis
 use Rattle.model_line.specs.declared.config.Config.{Config}
 use Rattle.model_line.specs.Event.{LineTold, nothing, dropped}
 use Rattle.model_line.specs.Effect.{Aim, at_none, at_link, at_management, at_terminal, at_units, at_no_link}

@@ -2,9 +2,9 @@
 use Rattle.std.specs.Prelude.{◌≡◌, ℕ, ◌≤◌, ◌<◌, length, replicate, All, Bool, true, false, [], Option, Some, None}
 use Rattle.model_link.specs.Link.{Link, fresh}
 use Rattle.model_link.specs.Sound as links
-use Rattle.lapd_tei.specs.Machine.{Management}
-use Rattle.lapd_tei.specs.Sound as tei
-use Rattle.lapd_terminal.specs.Sound as terminals
+use Rattle.model_teis.specs.network.Machine.{Management}
+use Rattle.model_teis.specs.network.Sound as tei
+use Rattle.model_teis.specs.terminal.Sound as terminals
 use Rattle.model_line.specs.declared.config.Config.{Config}
 use Rattle.model_line.specs.Config.{first_fault}
 use Rattle.model_line.specs.Line.{Line, Own, is_terminal, terminal_with, UnitData, link_count, service_at, place_at, tei_at, terms, link_at}

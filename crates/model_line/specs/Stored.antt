@@ -4,8 +4,8 @@ use Rattle.std.specs.Prelude.{ℕ, ◌+◌, ◌*◌, length, sum_by, List, if◌
 use Rattle.std.specs.List.{range_with_len}
 use Rattle.model_link.specs.Link.{queue_of}
 use Rattle.model_link.specs.Rises as links
-use Rattle.lapd_tei.specs.Machine.{held}
-use Rattle.lapd_terminal.specs.Machine as terminals
+use Rattle.model_teis.specs.network.Machine.{held}
+use Rattle.model_teis.specs.terminal.Machine as terminals
 use Rattle.model_line.specs.declared.config.Config.{Config}
 use Rattle.model_line.specs.Line.{Line, is_terminal, terminal_in, UnitData, link_count, terms_at, link_at}
 

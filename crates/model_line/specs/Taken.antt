@@ -12,8 +12,8 @@ use Rattle.model_link.specs.Events as link
 use Rattle.model_link.specs.Link.{address_at}
 use Rattle.model_link.specs.Machine as links
 use Rattle.model_link.specs.Told.{Given}
-use Rattle.lapd_tei.specs.Events as teis
-use Rattle.lapd_terminal.specs.Events as terminals
+use Rattle.model_teis.specs.network.Events as teis
+use Rattle.model_teis.specs.terminal.Events as terminals
 use Rattle.model_line.specs.declared.config.Config.{Config}
 use Rattle.model_line.specs.Event.{NextFrame}
 use Rattle.model_line.specs.Line.{Line, is_terminal, terminal_in, with_terminal, UnitData, link_count, terms_at, link_at, with_link}

@@ -22,7 +22,7 @@ use Rattle.model_line.specs.declared.config.Config.{Config}
 use Rattle.model_line.proofs.LinkMoves.{all-after}
 use Rattle.model_line.proofs.Placed.{in-place}
 use Rattle.model_line.proofs.TimersFollow.{runs-follow, none-run}
-use Rattle.lapd_tei.specs.Sound.{IsAt}
+use Rattle.model_teis.specs.Table.{IsAt}
 use Rattle.model_card.specs.Card.{Card, fresh, line_at}
 use Rattle.model_card.specs.Event.{Event, at}
 use Rattle.model_card.specs.Machine.{after, answer}

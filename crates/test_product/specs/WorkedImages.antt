@@ -14,12 +14,12 @@ use Rattle.lapd_count.specs.declared.messages.MessageType.TheVariants as types
 use Rattle.lapd_frame.specs.declared.addresses.Side.TheVariants.{User}
 use Rattle.lapd_frame.specs.declared.readings.Reading.TheVariants.{AnnexB}
 use Rattle.lapd_image.specs.Numbers.{number}
-use Rattle.lapd_tei.specs.Image.{management}
-use Rattle.lapd_tei.specs.Machine.{Management}
-use Rattle.lapd_tei.specs.declared.check.Period.TheVariants.{First}
-use Rattle.lapd_tei.specs.declared.messages.Message.TheVariants.{IdentityAssigned, IdentityDenied, IdentityCheckRequest, IdentityRemove}
-use Rattle.lapd_terminal.specs.declared.messages.Message.TheVariants.{IdentityCheckResponse, IdentityVerify}
-use Rattle.lapd_terminal.specs.declared.procedure.Procedure.TheVariants.{Verifying}
+use Rattle.model_teis.specs.network.Image.{management}
+use Rattle.model_teis.specs.network.Machine.{Management}
+use Rattle.model_teis.specs.declared.network.check.Period.TheVariants.{First}
+use Rattle.model_teis.specs.declared.network.messages.Message.TheVariants.{IdentityAssigned, IdentityDenied, IdentityCheckRequest, IdentityRemove}
+use Rattle.model_teis.specs.declared.terminal.messages.Message.TheVariants.{IdentityCheckResponse, IdentityVerify}
+use Rattle.model_teis.specs.declared.terminal.procedure.Procedure.TheVariants.{Verifying}
 use Rattle.model_line.specs.Image.{unit, own}
 use Rattle.model_line.specs.Most.{most_octets}
 use Rattle.model_line.specs.Line.{Own}

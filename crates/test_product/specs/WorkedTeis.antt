@@ -6,10 +6,10 @@ use Rattle.lapd_frame.specs.declared.notes.Note.TheVariants.{Assigned, Removed, 
 use Rattle.lapd_frame.specs.declared.refusals.Refusal.TheVariants.{NoLink, TeiTaken, TableFull, CheckRunning, ControlFull}
 use Rattle.lapd_frame.specs.declared.timers.Order.TheVariants.{Start, Stop}
 use Rattle.lapd_frame.specs.declared.timers.Timer.TheVariants.{T201}
-use Rattle.lapd_tei.specs.declared.messages.Message.TheVariants.{IdentityRemove}
-use Rattle.lapd_tei.specs.declared.outcome.Change.TheVariants.{Gained, Left}
-use Rattle.lapd_tei.specs.Machine.{Management, empty, may_send, held, TeiTold, nothing}
-use Rattle.lapd_tei.specs.Events.{Event, message, expiry, assign, remove, check, disown, refusal, course, after, told, offered, after_offer}
+use Rattle.model_teis.specs.declared.network.messages.Message.TheVariants.{IdentityRemove}
+use Rattle.model_teis.specs.declared.changes.Change.TheVariants.{Gained, Left}
+use Rattle.model_teis.specs.network.Machine.{Management, empty, may_send, held, TeiTold, nothing}
+use Rattle.model_teis.specs.network.Events.{Event, message, expiry, assign, remove, check, disown, refusal, course, after, told, offered, after_offer}
 
 -- a line with room for eight TEIs, after events from its start; each message is pulled at once
 abbrev pub pulled : Event → Management → Management

@@ -4,9 +4,9 @@ use Rattle.lapd_frame.specs.declared.readings.Reading.TheVariants.{AnnexB}
 use Rattle.lapd_frame.specs.declared.notes.Note.TheVariants.{Assigned, Removed}
 use Rattle.lapd_frame.specs.declared.timers.Order.TheVariants.{Start, Stop}
 use Rattle.lapd_frame.specs.declared.timers.Timer.TheVariants.{T201}
-use Rattle.lapd_tei.specs.declared.outcome.Change.TheVariants.{Gained, Left}
-use Rattle.lapd_tei.specs.Machine.{Management, empty, may_send, held, nothing}
-use Rattle.lapd_tei.specs.Events.{Event, message, expiry, assign, check, disown, down, refusal, course, after, told}
+use Rattle.model_teis.specs.declared.changes.Change.TheVariants.{Gained, Left}
+use Rattle.model_teis.specs.network.Machine.{Management, empty, may_send, held, nothing}
+use Rattle.model_teis.specs.network.Events.{Event, message, expiry, assign, check, disown, down, refusal, course, after, told}
 use Rattle.test_product.specs.WorkedTeis.{pulled, after_all, asks, answers, verifies, assigned, asked, taken, brought}
 
 abbrev line : List Event → Management

@@ -7,7 +7,7 @@ ghost use Rattle.lapd_line.specs.ImageParts.{HasNoLayer, HasNoLinkAt, HasNoLinks
 ghost use Rattle.lapd_line.specs.LinkLayer.{LayerStands};
 ghost use Rattle.lapd_line.specs.{IsInRange, LinksStand, Owned, SameLimits, Standing, link_count, machine_at, places_of, used_slots};
 ghost use Rattle.model_line.specs.Image as image;
-ghost use Rattle.lapd_tei.specs.Sound.{IsSoundTable};
+ghost use Rattle.model_teis.specs.Table.{IsSoundTable};
 ghost use Rattle.model_link.specs.Image.{IsSavedLink};
 ghost use Rattle.model_line.specs.Image.{IsWhole};
 ghost use Rattle.model_line.specs.Line as machine;

@@ -5,8 +5,8 @@ use Rattle.hex.specs.Hex.{decode_pairs, encode_with}
 use Rattle.model_bits.specs.Bits.{low_bits}
 use Rattle.lapd_frame.specs.Reading.{reading, header_of, control_of, unnumbered_of}
 use Rattle.lapd_frame.specs.Senders.{exchanged, reading as read_by}
-use Rattle.lapd_tei.specs.Events as teis
-use Rattle.lapd_terminal.specs.Events as terminals
+use Rattle.model_teis.specs.network.Events as teis
+use Rattle.model_teis.specs.terminal.Events as terminals
 use Rattle.model_line.specs.Machine as lines
 use Rattle.model_card.specs.ports.Card as cards
 use Rattle.lapd_sim.specs.machine.Board as boards

@@ -3,16 +3,16 @@
 ghost use Rattle.std.specs.Prelude.{◌≡◌, ◌≤◌, true, length, IfOk, OnErr};
 ghost use Rattle.lapd_image.specs.Puts.{Puts};
 ghost use Rattle.lapd_image.specs.Reads.{HasNone, IsReadAs};
-ghost use Rattle.lapd_tei.specs.Image.{IsDueOf, due};
-ghost use Rattle.lapd_tei.specs.Sound.{AreSoundChecks, MayBeDue};
+ghost use Rattle.model_teis.specs.network.Image.{IsDueOf, due};
+ghost use Rattle.model_teis.specs.network.Sound.{AreSoundChecks, MayBeDue};
 ghost use Rattle.model_bits.specs.Bits.{low_bits, number_of};
 
 use super::Due;
-use crate::check::Check;
 use crate::table::Table;
 use arrayvec::ArrayVec;
 use lapd_frame::Reading;
 use lapd_image::{BadImage, Reader, put_octet};
+use model_teis::network::Check;
 
 impl Due {
     /// Writes which checks are due, in one octet.

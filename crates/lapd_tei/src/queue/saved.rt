@@ -4,12 +4,13 @@ ghost use Rattle.std.specs.Prelude.{◌<◌, ◌≤◌, length, get_or, All, OnE
 ghost use Rattle.lapd_image.specs.Numbers.{list_of};
 ghost use Rattle.lapd_image.specs.Puts.{Puts};
 ghost use Rattle.lapd_image.specs.Reads.{HasNone, IsReadAs};
-ghost use Rattle.lapd_tei.specs.Image.{IsOfOctets, IsQueue};
-ghost use Rattle.lapd_tei.specs.Messages.{Message, information_of};
-ghost use Rattle.lapd_tei.specs.Sound.{IsSoundQueue};
+ghost use Rattle.model_teis.specs.network.Image.{IsOfOctets, IsQueue};
+ghost use Rattle.model_teis.specs.declared.network.messages.Message.{Message};
+ghost use Rattle.model_teis.specs.network.Messages.{information_of};
+ghost use Rattle.model_teis.specs.network.Sound.{IsSoundQueue};
 
 use super::{LIMIT, Queue};
-use crate::messages::Message;
+use crate::messages;
 use lapd_image::{BadImage, Reader, put_octet};
 
 impl Queue {
@@ -36,7 +37,7 @@ impl Queue {
         ensures saved { (other : Message) → IsOfOctets (get_or self.now place other) }
     {
         match self.messages.get(place) {
-            Some(message) => message.save(out, at),
+            Some(message) => messages::save(*message, out, at),
             None => at,
         }
     }
@@ -56,7 +57,7 @@ impl Queue {
             return Err(BadImage);
         }
         for _ in 0..count {
-            let message = Message::restored(reader)?;
+            let message = messages::restored(reader)?;
             self.send(message);
         }
         Ok(())

@@ -6,12 +6,13 @@ ghost use Rattle.lapd_frame.specs.Readings.{by_reading};
 ghost use Rattle.lapd_image.specs.Numbers.{list_of};
 ghost use Rattle.lapd_image.specs.Puts.{Puts};
 ghost use Rattle.lapd_image.specs.Reads.{HasNone, IsReadAs};
-ghost use Rattle.lapd_tei.specs.Image.{HasRi, IsMemory, IsMemoryOf, remembered, shares};
+ghost use Rattle.model_teis.specs.network.Image.{HasRi, IsMemory, IsMemoryOf, remembered, shares};
 
-use super::{Memory, Remembered};
+use super::Memory;
 use crate::table::Table;
 use lapd_frame::Reading;
 use lapd_image::{BadImage, Reader, put_number, put_octet};
+use model_teis::network::Remembered;
 
 impl Memory {
     /// Writes the list of what is remembered.
@@ -22,7 +23,7 @@ impl Memory {
     {
         let mut end = put_octet(out, at, self.len() as u8);
         for one in self.latest.as_slice() {
-            end = one.save(out, end);
+            end = save_one(*one, out, end);
         }
         end
     }
@@ -59,7 +60,7 @@ impl Memory {
         ensures read { IfOk result (λ one. IsReadAs remembered (λ one. IsMemory table.now (self.now ++ one ∷ [])) one reader.old reader.new) }
         ensures none { OnErr result (HasNone remembered (λ one. IsMemory table.now (self.now ++ one ∷ [])) reader.old) }
     {
-        let one = Remembered::restored(reader)?;
+        let one = one_restored(reader)?;
         if !table.is_on(one.tei) || self.shares(one) {
             return Err(BadImage);
         }
@@ -87,23 +88,22 @@ fn most(reading: Reading) -> u8
     }
 }
 
-impl Remembered {
-    // One assignment.
-    fn save(self, out: &mut [u8], at: usize) -> usize
-        requires { at ≤ length out.old }
-        ensures puts { Puts (remembered self) at out.old result out.new }
-        ensures saved { HasRi self }
-    {
-        let end = put_number(out, at, 2, u64::from(self.ri));
-        put_octet(out, end, self.tei)
-    }
-    // Reads one.
-    fn restored(reader: &mut Reader<'_>) -> Result<Remembered, BadImage>
-        ensures read { IfOk result (λ one. IsReadAs remembered HasRi one reader.old reader.new) }
-        ensures none { OnErr result (HasNone remembered HasRi reader.old) }
-    {
-        let ri = reader.number(2)? as u16;
-        let tei = reader.octet()?;
-        Ok(Remembered { ri, tei })
-    }
+// One assignment.
+fn save_one(one: Remembered, out: &mut [u8], at: usize) -> usize
+    requires { at ≤ length out.old }
+    ensures puts { Puts (remembered one) at out.old result out.new }
+    ensures saved { HasRi one }
+{
+    let end = put_number(out, at, 2, u64::from(one.ri));
+    put_octet(out, end, one.tei)
+}
+
+// Reads one.
+fn one_restored(reader: &mut Reader<'_>) -> Result<Remembered, BadImage>
+    ensures read { IfOk result (λ one. IsReadAs remembered HasRi one reader.old reader.new) }
+    ensures none { OnErr result (HasNone remembered HasRi reader.old) }
+{
+    let ri = reader.number(2)? as u16;
+    let tei = reader.octet()?;
+    Ok(Remembered { ri, tei })
 }

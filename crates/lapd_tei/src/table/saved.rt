@@ -3,8 +3,8 @@
 ghost use Rattle.std.specs.Prelude.{◌≡◌, ◌≤◌, [], ◌∷◌, ◌++◌, length, IfOk, OnErr};
 ghost use Rattle.lapd_image.specs.Puts.{Puts};
 ghost use Rattle.lapd_image.specs.Reads.{HasNone, IsReadAs};
-ghost use Rattle.lapd_tei.specs.Image.{IsTableOf, one_place, place, table};
-ghost use Rattle.lapd_tei.specs.Sound.{IsSoundTable};
+ghost use Rattle.model_teis.specs.TableImage.{IsTableOf, one_place, place, table};
+ghost use Rattle.model_teis.specs.Table.{IsSoundTable};
 
 use super::Table;
 use arrayvec::ArrayVec;

@@ -4,12 +4,13 @@ ghost use Rattle.std.specs.Prelude.{◌≡◌, ◌≤◌, true, false, Some, Non
 ghost use Rattle.lapd_frame.specs.declared.readings.Reading.TheVariants.{AnnexB};
 ghost use Rattle.lapd_tei.specs.{First, Second, IdentityRemove, is_on, is_checked, begun, begin_check, check_next, stop_check, end_check, end_check_of, check_is_due, left, verify, verify_beside, ask_once, respond, serve, count, counted, doubled, expire, expire_period, removed, read_as, nothing_happens, send, ◌then◌, responses_in, led_to, IsShort, IsOpen, AreSoundChecks, MayBeDue};
 
-use super::{Teis, left};
-use crate::check::{Check, Period};
+use super::Teis;
+use crate::check;
 use crate::heard::is_among;
-use crate::messages::Message;
 use crate::outcome::TeiOutcome;
+use crate::table::left;
 use lapd_frame::{Note, Order, Reading, ShortList, Timer};
+use model_teis::network::{Check, Message, Period};
 
 impl Teis {
     // A terminal asks for a check of its TEI.
@@ -128,8 +129,8 @@ impl Teis {
         ensures led { led_to self.new result ≡ count own.tei (counted own) (begun self.old) }
         ensures short { IsShort result }
     {
-        let counted = own.counted();
-        if counted.responses() >= 2 {
+        let counted = check::counted(own);
+        if check::responses(counted) >= 2 {
             return self.doubled(own.tei);
         }
         self.check = Some(counted);
@@ -164,7 +165,7 @@ impl Teis {
     {
         match own.period {
             Period::First => self.ask_again(own),
-            Period::Second if own.is_unanswered() => self.removed(own.tei),
+            Period::Second if check::is_unanswered(own) => self.removed(own.tei),
             Period::Second => self.end_check(own.tei, TeiOutcome::nothing()),
         }
     }

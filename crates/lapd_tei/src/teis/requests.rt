@@ -4,9 +4,11 @@ ghost use Rattle.std.specs.Prelude.{◌≡◌, ◌≤◌};
 ghost use Rattle.lapd_tei.specs.{action_of, begun, answer_request, request, request_anew, request_of, send, led_to, IsShort};
 
 use super::Teis;
-use crate::messages::{Message, NO_TEI};
-use crate::outcome::{Change, TeiOutcome};
+use crate::information::NO_TEI;
+use crate::outcome::TeiOutcome;
 use lapd_frame::{Note, Reading, ShortList};
+use model_teis::Change;
+use model_teis::network::Message;
 
 impl Teis {
     // An identity request for any TEI.

@@ -1,12 +1,12 @@
 //! TEI management in an image of its card.
 
 ghost use Rattle.std.specs.Prelude.{◌≡◌, ◌≤◌, length, OnOk, OnErr};
-ghost use Rattle.lapd_tei.specs.Image.{image, IsSavedOf};
+ghost use Rattle.model_teis.specs.network.Image.{image, IsSavedOf};
 ghost use Rattle.lapd_image.specs.Puts.{Puts};
 ghost use Rattle.lapd_image.specs.Reads.{IsReadAs, HasNone};
 
 use super::Teis;
-use crate::check::Check;
+use crate::check;
 use crate::due::Due;
 use crate::remembered::Memory;
 use lapd_image::{BadImage, Reader};
@@ -20,7 +20,7 @@ impl Teis {
     {
         let end = self.table.save(out, at);
         let end = self.memory.save(out, end);
-        let end = Check::save(self.check, out, end);
+        let end = check::save(self.check, out, end);
         let end = self.due.save(out, end);
         self.queue.save(out, end)
     }
@@ -36,7 +36,7 @@ impl Teis {
     {
         let table = self.table.restored(reader)?;
         let memory = Memory::restored(self.reading, &table, reader)?;
-        let check = Check::restored(&table, reader)?;
+        let check = check::restored(&table, reader)?;
         let due = Due::restored(self.reading, &table, check, reader)?;
         self.queue.restore(reader)?;
         self.table = table;

@@ -1,7 +1,7 @@
 -- Worked values of a card: each computes.
 use Rattle.std.specs.Prelude.{None, ◌≡◌, ℕ, List, [], ◌∷◌, ◌++◌, map, Some, refl}
 use Rattle.laws_line.specs.WorkedWords.{QueueFull, PoolFull, Call, exchanged, read_by, reading, header_of, control_of, unnumbered_of, Config, first_fault, Answer, told, refused, gave, next, request, nothing, Data, Unit, Event, at, Card, fresh, state, run, stored, limit}
-use Rattle.lapd_tei.specs.Events as teis
+use Rattle.model_teis.specs.network.Events as teis
 use Rattle.model_line.specs.declared.config.Field.TheVariants as field
 use Rattle.model_line.specs.Machine as lines
 use Rattle.laws_line.specs.card.Worked.{usual, up}

@@ -2,7 +2,7 @@
 use Rattle.std.specs.Prelude.{◌≡◌, ℕ, ◌+◌, true, List, [], ◌∷◌, replicate, refl}
 use Rattle.laws_line.specs.WorkedWords.{Call, command, Sabme, link_at, Assign, Establish, most_frames_before}
 use Rattle.lapd_frame.specs.Senders.{exchanged}
-use Rattle.lapd_tei.specs.Events as teis
+use Rattle.model_teis.specs.network.Events as teis
 use Rattle.model_bits.specs.Bits.{low_bits}
 use Rattle.model_bits.specs.Stream as stream
 use Rattle.model_line.specs.Machine as lines

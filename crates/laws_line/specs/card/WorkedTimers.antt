@@ -1,7 +1,7 @@
 -- Worked values: which timers a caller runs that obeys the orders.
 use Rattle.std.specs.Prelude.{◌≡◌, Bool, true, false, List, [], ◌∷◌, ◌++◌, refl}
 use Rattle.laws_line.specs.WorkedWords.{Call, T200, T203, T201, exchanged, read_by, reading, header_of, control_of, unnumbered_of, expiry, Assign, Establish, Remove, Check, fresh, Event, at, moments, runs_at_callers}
-use Rattle.lapd_tei.specs.Events as teis
+use Rattle.model_teis.specs.network.Events as teis
 use Rattle.model_line.specs.Machine as lines
 use Rattle.laws_line.specs.card.Worked.{usual, on_0, up}
 

@@ -1,7 +1,7 @@
 -- A run that meets the premises: an end comes to state 8 on a line without noise.
 use Rattle.laws_time.proofs.Vocabulary.{All, All-append, All-cons, All-nil, All-replicate, Beat, Call, Enquires, Establish, IsClean, IsFit, IsOfLink, IsTalk, IsUndisturbed, [], arith, control_of, distance_of, exchanged, fall_due, header_of, inr, low_bits, named, plain, reading as read_by, refl, replicate, sapi_fault, seq, supervisory_of, unnumbered_of, ◌++◌, ◌∷◌}
 use Rattle.lapd_frame.specs.Reading.{reading}
-use Rattle.lapd_tei.specs.Events as teis
+use Rattle.model_teis.specs.network.Events as teis
 use Rattle.model_line.specs.Machine as lines
 use Rattle.model_card.specs.ports.Card as ports
 use Rattle.laws_time.proofs.OfCircuit.AgainKept.{no-noise-is-clear}

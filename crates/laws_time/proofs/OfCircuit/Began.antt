@@ -2,7 +2,7 @@
 use Rattle.laws_time.proofs.Vocabulary.{All, All-nil, AreInRange, AreOctets, Assign, Bool, Card, Config, GivesOctets, IsInRange, Lengths, List, OctetEndpoint, Port, Ran, Service, Some, StationStands, [], answered, ap, arith, asked-as, asked-way, at, cond, endpoint, first, flags, frames_among, fresh_at, fresh_link, fresh_port, goes-on}
 use Rattle.laws_time.proofs.Vocabulary.{is_final, is_terminal, length, length-replicate, line_answer, meant_all, moments as frame_moments, octet_at, octet_endpoint, octet_orders, of_aim, of_network, of_terminal, orders_in, port-after, port_of, ports_fresh as fresh, refl, refusal, some-in, stopped, subst, sym, tei_assign, tei_course, tei_refusal, terminal_course}
 use Rattle.laws_time.proofs.Vocabulary.{true≢false, unless_refused, unless_refused_told, within-ports, ℕ, ◌+◌, ◌<◌, ◌∙◌, ◌≡◌, ◌≤◌}
-use Rattle.lapd_terminal.specs.Events as terminals
+use Rattle.model_teis.specs.terminal.Events as terminals
 use Rattle.model_line.specs.Event as line
 use Rattle.model_line.specs.Line.{Line}
 use Rattle.model_card.specs.Machine as machine

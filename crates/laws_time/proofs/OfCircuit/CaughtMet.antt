@@ -2,7 +2,7 @@
 use Rattle.laws_time.proofs.Vocabulary.{All, All-append, All-cons, All-nil, All-replicate, AreAsked, AreClear, Beat, Call, Data, Establish, GoesWell, IsAsked, IsClean, IsFit, IsIdle, IsOfLink, IsTalk, [], arith, begins, calls, control_of, distance_of, exchanged, fall_due, header_of, low_bits, named, plain, reading as read_by, refl, replicate, sapi_fault, seq, supervisory_of, unnumbered_of, ◌++◌}
 use Rattle.laws_time.proofs.Vocabulary.{◌∷◌}
 use Rattle.lapd_frame.specs.Reading.{reading}
-use Rattle.lapd_tei.specs.Events as teis
+use Rattle.model_teis.specs.network.Events as teis
 use Rattle.model_line.specs.Machine as lines
 use Rattle.model_card.specs.ports.Card as ports
 use Rattle.laws_time.proofs.OfCircuit.AgainKept.{no-noise-is-clear}

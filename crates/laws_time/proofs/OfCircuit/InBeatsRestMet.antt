@@ -3,7 +3,7 @@ use Rattle.laws_time.proofs.Vocabulary.{All, All-cons, All-nil, AreInRange, AreO
 use Rattle.laws_time.proofs.Vocabulary.{clean, config, control_of, distance_of, exchanged, fall_due, false, far_clock, frame, frames_among, frames_at, granted_in, header_of, idle, is_busy, its_line, length, line_of, longest, low_bits, map, most_turns, named, near_clock, network, own_frames_at, own_link, plain, port_of, reading as read_by, refl, replicate, rested, runs_until, seq, sound}
 use Rattle.laws_time.proofs.Vocabulary.{state_of, subst, suc, supervisory_of, sym, unnumbered_of, user, zero, ℕ, ◌*◌, ◌++◌, ◌+◌, ◌-◌, ◌<◌, ◌∙◌, ◌∷◌, ◌≡◌, ◌≤◌}
 use Rattle.lapd_frame.specs.Reading.{reading}
-use Rattle.lapd_tei.specs.Events as teis
+use Rattle.model_teis.specs.network.Events as teis
 use Rattle.model_line.specs.Machine as lines
 use Rattle.model_card.specs.ports.Card as ports
 use Rattle.model_bits.specs.Stream as stream

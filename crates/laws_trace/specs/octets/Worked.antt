@@ -9,7 +9,7 @@ use Rattle.lapd_frame.specs.declared.services.Service.TheVariants.{Call}
 use Rattle.lapd_frame.specs.Reading.{reading, header_of, control_of, unnumbered_of}
 use Rattle.lapd_frame.specs.Senders.{exchanged, reading as read_by}
 use Rattle.model_line.specs.Machine as lines
-use Rattle.lapd_tei.specs.Events as teis
+use Rattle.model_teis.specs.network.Events as teis
 use Rattle.model_line.specs.Request.{Request, Unit, Down}
 use Rattle.laws_line.specs.Drains.{most_frames}
 use Rattle.laws_line.specs.card.Worked.{usual}

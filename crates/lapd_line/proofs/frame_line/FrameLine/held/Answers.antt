@@ -1,7 +1,7 @@
 -- Hand-written answers for `FrameLine::held`.
 use Rattle.lapd_line.proofs.Vocabulary.{◌+◌, arith, ap, ◌∙◌, terminal_in}
-use Rattle.lapd_tei.specs.Machine.{held}
-use Rattle.lapd_terminal.specs.Machine as terminals
+use Rattle.model_teis.specs.network.Machine.{held}
+use Rattle.model_teis.specs.terminal.Machine as terminals
 use Rattle.lapd_line.proofs.HeldSteps.{managed_is, few_managed, most_few}
 use Rattle.lapd_line.proofs.frame_line.FrameLine.held.Goals as goal
 

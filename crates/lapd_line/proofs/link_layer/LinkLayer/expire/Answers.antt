@@ -1,7 +1,7 @@
 -- Hand-written answers for `LinkLayer::expire`.
 use Rattle.lapd_line.proofs.Vocabulary.{[], at_management, at_terminal, sym, subst, Serves, aim_of_expiry}
-use Rattle.lapd_tei.specs.Events as teis
-use Rattle.lapd_terminal.specs.Events as terminals
+use Rattle.model_teis.specs.network.Events as teis
+use Rattle.model_teis.specs.terminal.Events as terminals
 use Rattle.lapd_line.proofs.link_layer.LinkLayer.expire.Goals as goal
 
 pub change-requires-clause-changing : goal.change-requires-clause-changing

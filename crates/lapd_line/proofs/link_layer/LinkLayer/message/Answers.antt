@@ -1,6 +1,6 @@
 -- Hand-written answers for `LinkLayer::message`.
 use Rattle.lapd_line.proofs.Vocabulary.{◌≡◌, true, sym, ◌∙◌, Unserved, dropped, drop_for, parts_of, is_ui, at_management, message_at, serves_messages}
-use Rattle.lapd_tei.specs.Events as teis
+use Rattle.model_teis.specs.network.Events as teis
 use Rattle.lapd_line.proofs.AddressSteps.{serves_as, serves_none, message_of_ui, no_ui, not_ours}
 use Rattle.lapd_line.proofs.link_layer.LinkLayer.message.Goals as goal
 use Rattle.lapd_line.proofs.link_layer.LinkLayer.message.Goals.{then-not-is_ui-via-then-not-is_ui, then-not-is_ui-via-else-not-is_ui+then-not-serves_messages}

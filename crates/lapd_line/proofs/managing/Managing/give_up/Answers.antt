@@ -1,7 +1,7 @@
 -- Hand-written answers for `Managing::give_up`.
 use Rattle.lapd_line.proofs.Vocabulary.{sym, subst, refl, ap, ◌∙◌, at_management, at_terminal, told_of_terminal}
-use Rattle.lapd_tei.specs.Events as teis
-use Rattle.lapd_terminal.specs.Events as terminals
+use Rattle.model_teis.specs.network.Events as teis
+use Rattle.model_teis.specs.terminal.Events as terminals
 use Rattle.lapd_line.specs.TeiChanges.{Answers}
 use Rattle.lapd_line.specs.declared.managing.Managing.TheVariants as kind
 use Rattle.lapd_line.proofs.ManagingSteps.{network_answers, terminal_answers}

@@ -1,6 +1,6 @@
 -- Hand-written answers for `TeiRequest::put`.
 use Rattle.lapd_line.proofs.Vocabulary.{◌≡◌, false, IfOk, IfOk-weaker, sym, subst, ltb-false, asked_aim}
-use Rattle.lapd_tei.specs.Events as teis
+use Rattle.model_teis.specs.network.Events as teis
 use Rattle.lapd_line.specs.Requests.{is_bad}
 use Rattle.lapd_line.specs.TeiChanges.{Answers}
 use Rattle.lapd_line.specs.declared.managing.Managing.TheVariants as kind

@@ -1,8 +1,8 @@
 -- Hand-written answers for `TeiRequest::put_to_terminal`.
 use Rattle.lapd_line.proofs.Vocabulary.{◌≡◌, false, refl, sym, subst, ap, ◌∙◌, ltb-false, asked_aim, at_management, at_terminal, told_of_terminal}
-use Rattle.lapd_tei.specs.Events as teis
-use Rattle.lapd_terminal.specs.Events as terminals
-use Rattle.lapd_terminal.specs.Outcome.{told_of}
+use Rattle.model_teis.specs.network.Events as teis
+use Rattle.model_teis.specs.terminal.Events as terminals
+use Rattle.lapd_tei.specs.terminal.Outcome.{told_of}
 use Rattle.lapd_line.specs.Requests.{is_bad}
 use Rattle.lapd_line.specs.TeiChanges.{Answers}
 use Rattle.lapd_line.specs.declared.managing.Managing.TheVariants as kind

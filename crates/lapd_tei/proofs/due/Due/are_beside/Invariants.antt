@@ -1,6 +1,6 @@
 -- The invariant of the loop of `Due::are_beside`.
 use Rattle.std.proofs.Common.{◌≡◌, ℕ, ◌<◌, None, false, get_or, true}
-use Rattle.lapd_tei.specs.Sound.{MayBeDue}
+use Rattle.model_teis.specs.network.Sound.{MayBeDue}
 use Rattle.lapd_tei.proofs.due.Due.are_beside.Given as goal
 
 -- each so far may be due

@@ -2,8 +2,8 @@
 use Rattle.std.proofs.Common.{◌≡◌, length}
 use Rattle.std.specs.Prelude.{flat_map}
 use Rattle.lapd_image.specs.Reads.{IsReadAs}
-use Rattle.lapd_tei.specs.Image.{IsQueue}
-use Rattle.lapd_tei.specs.Messages.{information_of}
+use Rattle.model_teis.specs.network.Image.{IsQueue}
+use Rattle.model_teis.specs.network.Messages.{information_of}
 use Rattle.lapd_tei.proofs.queue.Queue.restore.Given as goal
 
 -- so many are read

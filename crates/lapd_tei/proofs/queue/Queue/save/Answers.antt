@@ -2,9 +2,10 @@
 use Rattle.std.proofs.Common.{◌<◌, ◌≤◌, ◌∷◌, add-one, arith, length, take_all}
 use Rattle.std.specs.Prelude.{flat_map}
 use Rattle.lapd_image.proofs.Puts.{puts-next, puts-none, puts-same, puts-then}
-use Rattle.lapd_tei.specs.Image.{IsOfOctets}
-use Rattle.lapd_tei.specs.Messages.{IdentityRemove, information_of}
-use Rattle.lapd_tei.proofs.Lists.{each-all, each-more}
+use Rattle.model_teis.specs.network.Image.{IsOfOctets}
+use Rattle.model_teis.specs.declared.network.messages.Message.TheVariants.{IdentityRemove}
+use Rattle.model_teis.specs.network.Messages.{information_of}
+use Rattle.model_teis.proofs.Lists.{each-all, each-more}
 use Rattle.lapd_tei.proofs.queue.Queue.save.Goals as goal
 
 pub loop-place-init : goal.loop-place-init

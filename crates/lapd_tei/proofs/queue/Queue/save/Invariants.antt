@@ -2,8 +2,9 @@
 use Rattle.std.proofs.Common.{ℕ, ◌<◌, get_or, take}
 use Rattle.std.specs.Prelude.{flat_map}
 use Rattle.lapd_image.specs.Puts.{Puts}
-use Rattle.lapd_tei.specs.Image.{IsOfOctets}
-use Rattle.lapd_tei.specs.Messages.{Message, information_of}
+use Rattle.model_teis.specs.network.Image.{IsOfOctets}
+use Rattle.model_teis.specs.declared.network.messages.Message.{Message}
+use Rattle.model_teis.specs.network.Messages.{information_of}
 use Rattle.lapd_tei.proofs.queue.Queue.save.Given as goal
 
 abbrev pub invariant-loop-place : goal.invariant-loop-place

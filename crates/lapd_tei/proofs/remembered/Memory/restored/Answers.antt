@@ -4,7 +4,7 @@ use Rattle.std.specs.Prelude.{flat_map}
 use Rattle.lapd_image.specs.Reads.{IsReadAs}
 use Rattle.lapd_image.proofs.ReadLists.{list-cut, list-many}
 use Rattle.lapd_image.proofs.Reading.{on_err}
-use Rattle.lapd_tei.specs.Image.{IsMemory, IsMemoryOf, remembered}
+use Rattle.model_teis.specs.network.Image.{IsMemory, IsMemoryOf, remembered}
 use Rattle.lapd_tei.proofs.MemoryRead.{memory-begun, memory-few, memory-more, memory-none, memory-whole, most-four}
 use Rattle.lapd_tei.proofs.remembered.Memory.restored.Goals as goal
 

@@ -2,7 +2,7 @@
 use Rattle.std.proofs.Common.{◌≡◌, length}
 use Rattle.std.specs.Prelude.{flat_map}
 use Rattle.lapd_image.specs.Reads.{IsReadAs}
-use Rattle.lapd_tei.specs.Image.{IsMemory, remembered}
+use Rattle.model_teis.specs.network.Image.{IsMemory, remembered}
 use Rattle.lapd_tei.proofs.remembered.Memory.restored.Given as goal
 
 -- so many are read

@@ -2,8 +2,8 @@
 use Rattle.std.proofs.Common.{◌∷◌, add-one, arith, subst, take_all, ◌∙◌}
 use Rattle.std.specs.Prelude.{All, flat_map}
 use Rattle.lapd_image.proofs.Puts.{puts-none, puts-same, puts-then, puts-next}
-use Rattle.lapd_tei.specs.Image.{HasRi, remembered}
-use Rattle.lapd_tei.proofs.Lists.{each-all, each-more}
+use Rattle.model_teis.specs.network.Image.{HasRi, remembered}
+use Rattle.model_teis.proofs.Lists.{each-all, each-more}
 use Rattle.lapd_tei.proofs.remembered.Memory.save.Goals as goal
 
 pub loop-one-init : goal.loop-one-init
@@ -11,8 +11,8 @@ loop-one-init c = record { puts = puts-none c.put_octet-end.ensures.within; save
 
 pub loop-one-preserved : goal.loop-one-preserved
 loop-one-preserved c = record {
-  puts = rw add-one (puts-next remembered _ c.loop-one.one-index _ c.loop-one-test.true c.loop-one.invariant.puts c.save-end.ensures.puts);
-  saved = each-more HasRi _ c.loop-one.one-index _ c.loop-one-test.true c.loop-one.invariant.saved c.save-end.ensures.saved;
+  puts = rw add-one (puts-next remembered _ c.loop-one.one-index _ c.loop-one-test.true c.loop-one.invariant.puts c.save_one-end.ensures.puts);
+  saved = each-more HasRi _ c.loop-one.one-index _ c.loop-one-test.true c.loop-one.invariant.saved c.save_one-end.ensures.saved;
 }
 
 pub returns : goal.returns

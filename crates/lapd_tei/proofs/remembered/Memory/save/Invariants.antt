@@ -2,8 +2,8 @@
 use Rattle.std.proofs.Common.{ℕ, ◌<◌, get_or, take}
 use Rattle.std.specs.Prelude.{flat_map}
 use Rattle.lapd_image.specs.Puts.{Puts}
-use Rattle.lapd_tei.specs.Image.{HasRi, remembered}
-use Rattle.lapd_tei.specs.Machine.{Remembered}
+use Rattle.model_teis.specs.network.Image.{HasRi, remembered}
+use Rattle.model_teis.specs.declared.network.remembered.Remembered.{Remembered}
 use Rattle.lapd_tei.proofs.remembered.Memory.save.Given as goal
 
 abbrev pub invariant-loop-one : goal.invariant-loop-one

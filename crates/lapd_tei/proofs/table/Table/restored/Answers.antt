@@ -3,8 +3,8 @@ use Rattle.std.proofs.Common.{arith, ap, length, length-append, subst, sym, [], 
 use Rattle.std.specs.Prelude.{flat_map}
 use Rattle.lapd_image.specs.Reads.{IsReadAs}
 use Rattle.lapd_image.proofs.Reading.{on_err}
-use Rattle.lapd_tei.specs.Image.{one_place}
-use Rattle.lapd_tei.specs.Sound.{IsSoundTable}
+use Rattle.model_teis.specs.TableImage.{one_place}
+use Rattle.model_teis.specs.Table.{IsSoundTable}
 use Rattle.lapd_tei.proofs.TableRead.{table-begun, table-more, table-none, table-whole}
 use Rattle.lapd_tei.proofs.table.Table.restored.Goals as goal
 

@@ -2,8 +2,8 @@
 use Rattle.std.proofs.Common.{◌≡◌, length}
 use Rattle.std.specs.Prelude.{flat_map}
 use Rattle.lapd_image.specs.Reads.{IsReadAs}
-use Rattle.lapd_tei.specs.Image.{one_place}
-use Rattle.lapd_tei.specs.Sound.{IsSoundTable}
+use Rattle.model_teis.specs.TableImage.{one_place}
+use Rattle.model_teis.specs.Table.{IsSoundTable}
 use Rattle.lapd_tei.proofs.table.Table.restored.Given as goal
 
 -- so many places are read

@@ -1,7 +1,7 @@
 -- Hand-written answers for `Table::save`.
 use Rattle.std.proofs.Common.{None, [], ◌∷◌, add-one, ap, take_all, ◌∙◌}
 use Rattle.lapd_image.proofs.Puts.{puts-none, puts-same, puts-next_octet}
-use Rattle.lapd_tei.specs.Image.{place, table}
+use Rattle.model_teis.specs.TableImage.{place, table}
 use Rattle.lapd_tei.proofs.table.Table.save.Goals as goal
 
 pub loop-own-init : goal.loop-own-init

@@ -1,7 +1,7 @@
 -- The invariant of the loop of `Table::save`.
 use Rattle.std.proofs.Common.{take}
 use Rattle.lapd_image.specs.Puts.{Puts}
-use Rattle.lapd_tei.specs.Image.{table}
+use Rattle.model_teis.specs.TableImage.{table}
 use Rattle.lapd_tei.proofs.table.Table.save.Given as goal
 
 abbrev pub invariant-loop-own : goal.invariant-loop-own

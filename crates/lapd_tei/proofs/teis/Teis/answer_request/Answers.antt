@@ -1,9 +1,9 @@
 -- Hand-written answers for `Teis::answer_request`.
 use Rattle.lapd_tei.proofs.Vocabulary.{sym, subst, ◌∙◌, arith, IsSoundMemory, IsSoundQueue, IsAsRead, IdentityDenied, management_of}
-use Rattle.lapd_tei.proofs.Tables.{on-newcomer, free_tei-is}
-use Rattle.lapd_tei.proofs.Memories.{memory-put, memory-as_read, remembered-range}
-use Rattle.lapd_tei.proofs.Dues.{read-remembered}
-use Rattle.lapd_tei.proofs.SoundWords.{sound_came, sound_sent, queue-sent}
+use Rattle.model_teis.proofs.Tables.{on-newcomer, free_tei-is}
+use Rattle.model_teis.proofs.OfNetwork.Memories.{memory-put, memory-as_read, remembered-range}
+use Rattle.model_teis.proofs.OfNetwork.Dues.{read-remembered}
+use Rattle.model_teis.proofs.OfNetwork.SoundWords.{sound_came, sound_sent, queue-sent}
 use Rattle.lapd_tei.proofs.teis.Teis.answer_request.Goals as goal
 
 pub invariant_of-self : goal.invariant_of-self

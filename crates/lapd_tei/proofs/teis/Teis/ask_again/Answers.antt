@@ -1,7 +1,7 @@
 -- Hand-written answers for `Teis::ask_again`.
 use Rattle.lapd_tei.proofs.Vocabulary.{◌≡◌, IfSome, Some, Second, refl, subst, ap, ◌∙◌, IdentityCheckRequest, IsSoundCheck, management_of}
-use Rattle.lapd_tei.proofs.SoundWords.{sound_sent, on_low, check-again}
-use Rattle.lapd_tei.proofs.Dues.{dues-same}
+use Rattle.model_teis.proofs.OfNetwork.SoundWords.{sound_sent, on_low, check-again}
+use Rattle.model_teis.proofs.OfNetwork.Dues.{dues-same}
 use Rattle.lapd_tei.proofs.teis.Teis.ask_again.Goals as goal
 
 pub invariant_of-self : goal.invariant_of-self

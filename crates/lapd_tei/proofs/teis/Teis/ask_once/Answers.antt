@@ -1,6 +1,6 @@
 -- Hand-written answers for `Teis::ask_once`.
 use Rattle.lapd_tei.proofs.Vocabulary.{IdentityCheckRequest, management_of}
-use Rattle.lapd_tei.proofs.SoundWords.{sound_said, on_low}
+use Rattle.model_teis.proofs.OfNetwork.SoundWords.{sound_said, on_low}
 use Rattle.lapd_tei.proofs.teis.Teis.ask_once.Goals as goal
 
 pub invariant_of-self : goal.invariant_of-self

@@ -1,7 +1,7 @@
 -- Hand-written answers for `Teis::assign`.
 use Rattle.lapd_tei.proofs.Vocabulary.{sym, ◌∙◌, management_of}
-use Rattle.lapd_tei.proofs.Memories.{memory-put}
-use Rattle.lapd_tei.proofs.SoundWords.{sound_came}
+use Rattle.model_teis.proofs.OfNetwork.Memories.{memory-put}
+use Rattle.model_teis.proofs.OfNetwork.SoundWords.{sound_came}
 use Rattle.lapd_tei.proofs.teis.Teis.assign.Goals as goal
 
 pub invariant_of-self : goal.invariant_of-self

@@ -1,6 +1,6 @@
 -- Hand-written answers for `Teis::begin_check`.
 use Rattle.lapd_tei.proofs.Vocabulary.{◌≡◌, true, Some, First, sym, subst, is_on, IdentityCheckRequest, AreSoundChecks, management_of}
-use Rattle.lapd_tei.proofs.SoundWords.{sound_sent, on_low, check-begun}
+use Rattle.model_teis.proofs.OfNetwork.SoundWords.{sound_sent, on_low, check-begun}
 use Rattle.lapd_tei.proofs.teis.Teis.begin_check.Goals as goal
 
 pub invariant_of-self : goal.invariant_of-self

@@ -1,6 +1,6 @@
 -- Hand-written answers for `Teis::check_later`.
 use Rattle.lapd_tei.proofs.Vocabulary.{◌≡◌, Some, sym, subst, ap, ◌∙◌, AnnexB, Management, Course, MayBeDue, begun, due_at, management_of}
-use Rattle.lapd_tei.proofs.SoundWords.{sound_due, asked}
+use Rattle.model_teis.proofs.OfNetwork.SoundWords.{sound_due, asked}
 use Rattle.lapd_tei.proofs.teis.Teis.check_later.Goals as goal
 
 pub invariant_of-self : goal.invariant_of-self

@@ -1,7 +1,7 @@
 -- Hand-written answers for `Teis::check_next`.
 use Rattle.lapd_tei.proofs.Vocabulary.{◌≡◌, true, None, sym, subst, ap, ◌∙◌, Management, Course, AreSoundChecks, MayBeDue, is_checked, management_of}
-use Rattle.lapd_tei.proofs.Dues.{dues-none, due-there, nobody, none-lowest}
-use Rattle.lapd_tei.proofs.Ends.{other-next}
+use Rattle.model_teis.proofs.OfNetwork.Dues.{dues-none, due-there, nobody, none-lowest}
+use Rattle.model_teis.proofs.OfNetwork.Ends.{other-next}
 use Rattle.lapd_tei.proofs.teis.Teis.check_next.Goals as goal
 
 pub stop_check-requires-clause-due : goal.stop_check-requires-clause-due

@@ -1,6 +1,6 @@
 -- Hand-written answers for `Teis::give_up`.
 use Rattle.lapd_tei.proofs.Vocabulary.{Option, Check, sym, subst, IsSound, management_of}
-use Rattle.lapd_tei.proofs.SoundWords.{sound_down}
+use Rattle.model_teis.proofs.OfNetwork.SoundWords.{sound_down}
 use Rattle.lapd_tei.proofs.teis.Teis.give_up.Goals as goal
 
 pub invariant_of-self : goal.invariant_of-self

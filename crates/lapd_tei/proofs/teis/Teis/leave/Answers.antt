@@ -1,9 +1,9 @@
 -- Hand-written answers for `Teis::leave`.
 use Rattle.lapd_tei.proofs.Vocabulary.{◌≡◌, IfSome, false, sym, subst, ap, ◌∙◌, is_checked, place_of, due_at, AreSoundChecks, IsAsRead, IsSoundTable, IsSoundMemory, IsSoundCheck}
-use Rattle.lapd_tei.proofs.Tables.{table-freed}
-use Rattle.lapd_tei.proofs.Memories.{memory-freed}
-use Rattle.lapd_tei.proofs.SoundWords.{check-freed}
-use Rattle.lapd_tei.proofs.Dues.{dues-freed, read-less, read-leaving}
+use Rattle.model_teis.proofs.Tables.{table-freed}
+use Rattle.model_teis.proofs.OfNetwork.Memories.{memory-freed}
+use Rattle.model_teis.proofs.OfNetwork.SoundWords.{check-freed}
+use Rattle.model_teis.proofs.OfNetwork.Dues.{dues-freed, read-less, read-leaving}
 use Rattle.lapd_tei.proofs.teis.Teis.leave.Goals as goal
 
 pub invariant_of-self : goal.invariant_of-self

@@ -2,7 +2,7 @@
 use Rattle.std.proofs.Common.{refl, subst}
 use Rattle.lapd_image.specs.Reads.{HasNone, IsReadAs}
 use Rattle.lapd_image.proofs.Reading.{on_err}
-use Rattle.lapd_tei.specs.Image.{IsSavedOf, image}
+use Rattle.model_teis.specs.network.Image.{IsSavedOf, image}
 use Rattle.lapd_tei.proofs.Restored.{all-read, pass1, pass2, pass3, pass4, stop1, stop2, stop3, stop4}
 use Rattle.lapd_tei.proofs.Vocabulary.{List, Management, management_of, ℕ, ◌≡◌}
 use Rattle.lapd_tei.proofs.teis.Teis.restore.Goals as goal

@@ -1,7 +1,7 @@
 -- Hand-written answers for `Teis::save`.
 use Rattle.std.proofs.Common.{ap, refl, subst}
 use Rattle.lapd_image.proofs.Puts.{puts-same, puts-then}
-use Rattle.lapd_tei.specs.Image.{IsSavedOf, image}
+use Rattle.model_teis.specs.network.Image.{IsSavedOf, image}
 use Rattle.lapd_tei.proofs.teis.Teis.save.Goals as goal
 
 pub returns : goal.returns

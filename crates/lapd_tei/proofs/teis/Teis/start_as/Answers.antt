@@ -1,7 +1,8 @@
 -- Hand-written answers for `Teis::start_as`.
 use Rattle.lapd_tei.proofs.Vocabulary.{rules, sym, subst, IsSoundTable, IsSoundMemory, AreSoundChecks, IsAsRead, None}
-use Rattle.lapd_tei.proofs.SoundWords.{table-empty, memory-empty, queue-empty}
-use Rattle.lapd_tei.proofs.Dues.{dues-empty, read-empty}
+use Rattle.model_teis.proofs.Tables.{table-empty}
+use Rattle.model_teis.proofs.OfNetwork.SoundWords.{memory-empty, queue-empty}
+use Rattle.model_teis.proofs.OfNetwork.Dues.{dues-empty, read-empty}
 use Rattle.lapd_tei.proofs.teis.Teis.start_as.Goals as goal
 
 pub invariant_of-result : goal.invariant_of-result

@@ -1,6 +1,6 @@
 -- Hand-written answers for `Teis::take_off`.
 use Rattle.lapd_tei.proofs.Vocabulary.{IdentityRemove, management_of}
-use Rattle.lapd_tei.proofs.SoundWords.{sound_said, on_low}
+use Rattle.model_teis.proofs.OfNetwork.SoundWords.{sound_said, on_low}
 use Rattle.lapd_tei.proofs.teis.Teis.take_off.Goals as goal
 
 pub invariant_of-self : goal.invariant_of-self

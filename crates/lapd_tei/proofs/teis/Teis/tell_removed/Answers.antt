@@ -1,6 +1,6 @@
 -- Hand-written answers for `Teis::tell_removed`.
 use Rattle.lapd_tei.proofs.Vocabulary.{IdentityRemove, management_of}
-use Rattle.lapd_tei.proofs.SoundWords.{sound_said, on_low, checked_now}
+use Rattle.model_teis.proofs.OfNetwork.SoundWords.{sound_said, on_low, checked_now}
 use Rattle.lapd_tei.proofs.teis.Teis.tell_removed.Goals as goal
 
 pub invariant_of-self : goal.invariant_of-self

@@ -1,0 +1,161 @@
+//! What a message of the network leads to, and what an expiry of T202 does (Q.921 clause 5.3).
+
+ghost use Rattle.std.specs.Prelude.{◌≡◌, true, Some, None, All};
+ghost use Rattle.std.specs.List.{fold};
+ghost use Rattle.lapd_tei.specs.{is_on};
+ghost use Rattle.model_teis.specs.terminal.Words.{begun};
+ghost use Rattle.model_teis.specs.Table.{named};
+ghost use Rattle.model_teis.specs.terminal.Rows.{answered, assigned, denied, doubt, take_tei, checked, removed, removed_each, ask_again, verify_again, take_off};
+ghost use Rattle.model_teis.specs.terminal.Sound.{may_ask, may_verify};
+ghost use Rattle.lapd_tei.specs.terminal.Outcome.{led_to, ordered};
+
+use super::TerminalTeis;
+use crate::table::{LOWEST, left};
+use crate::terminal::outcome::TerminalOutcome;
+use lapd_frame::LAST_TEI;
+use model_teis::Change;
+use model_teis::terminal::{News, Procedure, T202Order};
+
+// How often a TEI is asked for (N202, clause 5.9.4), and how often a verify is sent (clause 5.3.5).
+const MOST_REQUESTS: u8 = 3;
+
+const MOST_VERIFIES: u8 = 2;
+
+impl TerminalTeis {
+    // A TEI is assigned, to this terminal or to another.
+    pub(super) fn assigned(&mut self, ri: u16, tei: u8) -> TerminalOutcome
+        ensures led { led_to self.new result ≡ assigned ri tei self.old.procedure (begun self.old) }
+    {
+        match self.procedure {
+            None => self.doubt(tei),
+            Some(Procedure::Asking { ri: own, .. }) if own == ri => self.take_tei(tei),
+            Some(_) => TerminalOutcome::unserved(),
+        }
+    }
+
+    // Another terminal was assigned this TEI, while no procedure runs.
+    fn doubt(&mut self, tei: u8) -> TerminalOutcome
+        requires { self.old.procedure ≡ None }
+        ensures led { led_to self.new result ≡ doubt tei (begun self.old) }
+    {
+        if !self.table.is_on(tei) {
+            return TerminalOutcome::unserved();
+        }
+        self.verify_for(tei, 1)
+    }
+
+    // The TEI for which this terminal has asked.
+    fn take_tei(&mut self, tei: u8) -> TerminalOutcome
+        ensures led { led_to self.new result ≡ take_tei tei (begun self.old) }
+    {
+        if tei < LOWEST || tei > LAST_TEI || self.table.is_on(tei) {
+            return TerminalOutcome::unserved();
+        }
+        let Some(place) = self.table.free_place() else {
+            return TerminalOutcome::unserved();
+        };
+        self.join(tei, place);
+        TerminalOutcome {
+            news: Some(News::Assigned(tei)),
+            change: Some(Change::Gained { tei, place }),
+            order: self.end_procedure(),
+            unserved: false,
+        }
+    }
+
+    // The network has no TEI for the terminal that asked by this reference number.
+    pub(super) fn denied(&mut self, ri: u16) -> TerminalOutcome
+        ensures led { led_to self.new result ≡ denied ri self.old.procedure (begun self.old) }
+    {
+        match self.procedure {
+            Some(Procedure::Asking { ri: own, .. }) if own == ri => {
+                TerminalOutcome::told(News::Denied)
+            }
+            _ => TerminalOutcome::unserved(),
+        }
+    }
+
+    // The network checks a TEI, or all.
+    pub(super) fn checked(&mut self, tei: u8) -> TerminalOutcome
+        ensures led { led_to self.new result ≡ checked (named tei self.old.places) (begun self.old) }
+    {
+        let teis = self.table.named(tei);
+        if teis.is_empty() {
+            return TerminalOutcome::unserved();
+        }
+        TerminalOutcome::ordered(self.answer_each(teis.as_slice()))
+    }
+
+    // Checks of TEIs on the line are answered, in their order.
+    fn answer_each(&mut self, teis: &[u8]) -> Option<T202Order>
+        requires { All (λ tei. is_on tei self.old.places ≡ true) teis.now }
+        ensures { ordered self.new result ≡ fold answered (begun self.old) teis.now }
+    {
+        let mut order = None;
+        for tei in teis {
+            order = self.answer(*tei, order);
+        }
+        order
+    }
+
+    // The network removes a TEI, or all.
+    pub(super) fn removed_each(&mut self, tei: u8) -> TerminalOutcome
+        ensures led { led_to self.new result ≡ removed_each (named tei self.old.places) (begun self.old) }
+    {
+        match *self.table.named(tei).as_slice() {
+            [] => TerminalOutcome::unserved(),
+            [tei] => self.removed(tei),
+            _ => TerminalOutcome::told(News::RemoveAll),
+        }
+    }
+
+    // A TEI leaves the line, and management is told.
+    fn removed(&mut self, tei: u8) -> TerminalOutcome
+        ensures led { led_to self.new result ≡ removed tei (begun self.old) }
+    {
+        TerminalOutcome {
+            news: Some(News::Removed(tei)),
+            ..self.take_off(tei)
+        }
+    }
+
+    // A TEI leaves the line, and nothing is told but that T202 stops, if the TEI was verified.
+    pub(super) fn take_off(&mut self, tei: u8) -> TerminalOutcome
+        ensures led { led_to self.new result ≡ take_off tei (begun self.old) }
+    {
+        let order = self.end_verifying_of(tei);
+        let place = self.leave(tei);
+        TerminalOutcome {
+            news: None,
+            change: left(tei, place),
+            order,
+            unserved: false,
+        }
+    }
+
+    // T202 has expired while the terminal asks for a TEI.
+    pub(super) fn ask_again(&mut self, attempts: u8) -> TerminalOutcome
+        requires { may_ask self.old.procedure ≡ true }
+        ensures led { led_to self.new result ≡ ask_again attempts (begun self.old) }
+    {
+        if attempts < MOST_REQUESTS {
+            return self.ask_for(attempts + 1);
+        }
+        TerminalOutcome {
+            news: Some(News::Unassigned),
+            ..TerminalOutcome::ordered(self.end_procedure())
+        }
+    }
+
+    // T202 has expired while it verifies one.
+    pub(super) fn verify_again(&mut self, tei: u8, attempts: u8) -> TerminalOutcome
+        requires on_line { is_on tei self.old.places ≡ true }
+        requires goes_on { may_verify tei self.old.procedure ≡ true }
+        ensures led { led_to self.new result ≡ verify_again tei attempts (begun self.old) }
+    {
+        if attempts < MOST_VERIFIES {
+            return self.verify_for(tei, attempts + 1);
+        }
+        self.removed(tei)
+    }
+}

@@ -1,3 +1,0 @@
--- Lemmas: the messages that wait, as they are read, and the whole, part by part.
-pub mod Waiting
-pub mod Restored

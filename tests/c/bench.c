@@ -93,7 +93,8 @@ static size_t make_stream(const char *work) {
 }
 
 static bool start(void) {
-    static const lapd_config config = {1, 8, 7, 7, 8, 4, 4, 8, 260, 3, LAPD_NETWORK, 0, 0, LAPD_PROFILE};
+    static const lapd_config config = {.lines = 1, .terminals = 8, .k = 7, .k16 = 7, .queue = 8, .unit_queue = 4, .control = 4, .slots = 8,
+                                       .n201 = 260, .n200 = 3};
     static const uint8_t sabme[] = {0x00, 0x81, 0x7F};
     if (lapd_card_start(&card, &config) != LAPD_OK || lapd_clock_start(&timers, &config) != LAPD_OK
         || lapd_assign(&card, 0, 64, &report) != LAPD_OK)

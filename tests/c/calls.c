@@ -14,7 +14,8 @@
 
 enum { PLACES = 254, LINES = 2 };
 
-static const lapd_config config = {LINES, 8, 7, 7, 8, 4, 4, 8, 260, 3, LAPD_NETWORK, 0, 0, LAPD_PROFILE};
+static const lapd_config config = {.lines = LINES, .terminals = 8, .k = 7, .k16 = 7, .queue = 8, .unit_queue = 4, .control = 4, .slots = 8,
+                                   .n201 = 260, .n200 = 3};
 static const lapd_lengths lengths_of = {.t200 = 1000, .t203 = 10000, .t201 = 1000, .t202 = 2000};
 static lapd_card card;
 static lapd_report report;

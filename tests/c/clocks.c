@@ -222,7 +222,9 @@ static int start(world *w, int shorter) {
     for (int i = 0; i < 2; i++) {
         end *e = &w->ends[i];
         uint16_t k = (uint16_t)(1 + below(7)), control = (uint16_t)(2 + below(3));
-        lapd_config config = {1, 1, k, k, (uint16_t)(k + below(4)), 1, control, 16, (uint16_t)n201, (uint16_t)below(6), i == 0 ? LAPD_USER : LAPD_NETWORK, 0, 0, LAPD_PROFILE};
+        lapd_config config = {.lines = 1, .terminals = 1, .k = k, .k16 = k, .queue = (uint16_t)(k + below(4)), .unit_queue = 1,
+                              .control = control, .slots = 16, .n201 = (uint16_t)n201, .n200 = (uint16_t)below(6),
+                              .side = i == 0 ? LAPD_USER : LAPD_NETWORK};
         if (lapd_card_start(&e->card, &config) != LAPD_OK) fails("a start");
         e->network = i == 1;
         e->t200 = e->t203 = e->last_command = e->last_response = e->waits = NEVER;

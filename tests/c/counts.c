@@ -17,7 +17,8 @@
 
 enum { LINES = 3, N201 = 16, TURNS = 4000, MOST_PULLS = 4000 };
 
-static lapd_config config = {LINES, 8, 7, 7, 8, 4, 2, 40, N201, 3, LAPD_NETWORK, 0, 0, LAPD_PROFILE};
+static lapd_config config = {.lines = LINES, .terminals = 8, .k = 7, .k16 = 7, .queue = 8, .unit_queue = 4, .control = 2, .slots = 40,
+                             .n201 = N201, .n200 = 3};
 static lapd_card card;
 static bool for_frames;
 static lapd_report report;

@@ -16,13 +16,11 @@ from targets import FIRST, TARGETS
 # lapdsim.c and lapd.c are long, and a machine may have much to do.
 LONG = 900
 C99 = ["-std=c99", *STRICT, "-pedantic"]
-# What README.md begins with. Both take less than 30 seconds of the processor on a machine that does nothing else; other tests
-# that run beside them make it half as much again.
+# What README.md begins with.
 COMMANDS = ("cc -O2 -o lapdsim dist/lapdsim.c && ./lapdsim run < crates/lapdsim/stdin",
             "cc -O2 -I dist -o first examples/c/first.c dist/lapd.S dist/lapd_malloc.c && ./first")
-SOON = 45
 # And its third: tests.
-TESTS, TESTED_SOON = "cmake -S dist -B built && cmake --build built && (cd built && ctest)", 60
+TESTS = "cmake -S dist -B built && cmake --build built && (cd built && ctest)"
 # Programs of examples/c with their files; first.c and wire.c are played, as they ask for no line.
 EXAMPLES = {"first": (), "wire": ("trace",), "terminal": ("linecard", "trace"), "clock": ("trace",), "exchange": ("linecard", "pcap", "trace"),
             "hardware": ("linecard", "pcap", "trace"), "misdn": ("dchannel", "linecard", "pcap", "trace"),
@@ -81,7 +79,6 @@ def clean_folder(dist):
         check(command, (said.returncode, said.stdout) == (0, wanted), (said.stdout + said.stderr).decode()[-600:])
     took = seconds() - before
     print(f"c: both commands of README.md took {took:.1f} s of processor time")
-    check("a first program and a played script", took < SOON, f"{took:.1f} s")
     own_tests(clone, path)
     shown = re.findall(r"^    (cc \S.*?)(?:  .*)?$", read(f"{dist.files}/README").decode(), re.M)
     check("dist/README shows three commands", len(shown) == 3, shown)
@@ -104,7 +101,6 @@ def own_tests(clone, path):
     took = seconds() - before
     check(TESTS, said.returncode == 0 and b"100% tests passed" in said.stdout, (said.stdout + said.stderr).decode()[-600:])
     print(f"c: the tests of README.md took {took:.1f} s of processor time")
-    check("the tests of README.md", took < TESTED_SOON, f"{took:.1f} s")
 
 
 # ---- Examples -----------------------------------------------------------------------------------------------------------

@@ -12,9 +12,12 @@
 
 enum { LINES = 2, ROUNDS = 40000 };
 
-static const lapd_config config = {LINES, 8, 7, 7, 8, 4, 4, 8, 260, 3, LAPD_NETWORK, 0, 0, LAPD_PROFILE};
-static const lapd_config narrow = {1, 1, 1, 1, 1, 1, 2, 1, 8, 0, LAPD_NETWORK, 0, 0, LAPD_PROFILE};
-static const lapd_config primary = {1, 1, 7, 7, 8, 4, 4, 20, 260, 3, LAPD_NETWORK, 0, 0, LAPD_PROFILE};
+static const lapd_config config = {.lines = LINES, .terminals = 8, .k = 7, .k16 = 7, .queue = 8, .unit_queue = 4, .control = 4, .slots = 8,
+                                   .n201 = 260, .n200 = 3};
+static const lapd_config narrow = {.lines = 1, .terminals = 1, .k = 1, .k16 = 1, .queue = 1, .unit_queue = 1, .control = 2, .slots = 1,
+                                   .n201 = 8, .n200 = 0};
+static const lapd_config primary = {.lines = 1, .terminals = 1, .k = 7, .k16 = 7, .queue = 8, .unit_queue = 4, .control = 4, .slots = 20,
+                                    .n201 = 260, .n200 = 3};
 static const uint8_t sabme[] = {0x00, 0x81, 0x7F}, ua[] = {0x00, 0x81, 0x73}, from_terminal[] = {0x02, 0x81, 0x73};
 static int failed;
 

@@ -64,7 +64,8 @@ static void compare(const lapd_config *config) {
 
 static void configurations(void) {
     static const uint16_t edges[] = {0, 1, 2, 7, 8, 9, 10, 11, 16, 17, 64, 65, 126, 127, 128, 259, 260, 261, 8192, 8193, 65535};
-    static const lapd_config usual = {4, 8, 7, 3, 8, 4, 4, 64, 260, 3, LAPD_NETWORK, 0, 0, LAPD_PROFILE};
+    static const lapd_config usual = {.lines = 4, .terminals = 8, .k = 7, .k16 = 3, .queue = 8, .unit_queue = 4, .control = 4, .slots = 64,
+                                      .n201 = 260, .n200 = 3};
     enum { FIELDS = sizeof(lapd_config) / sizeof(uint16_t), EDGES = sizeof edges / sizeof *edges };
     for (u32 round = 0; round < 20000; round++) {
         uint16_t fields[FIELDS];
@@ -115,7 +116,8 @@ static void are_same(const char *what, machine *one, machine *other, u32 a, u32 
 static void octets(void) {
     static const u8 heads[][4] = {{0x00, 0x81, 0x00, 0x00}, {0x00, 0x81, 0x03, 0x08}, {0x02, 0x81, 0x01, 0x01}, {0xFC, 0xFF, 0x03, 0x0F}};
     for (u32 round = 0; round < 3000; round++) {
-        const lapd_config config = {1, 8, 7, 7, 8, 4, 4, 8, (uint16_t)(round % 2 ? 260 : 8 + below(253)), 3, LAPD_NETWORK, 0, 0, LAPD_PROFILE};
+        const lapd_config config = {.lines = 1, .terminals = 8, .k = 7, .k16 = 7, .queue = 8, .unit_queue = 4, .control = 4, .slots = 8,
+                                    .n201 = (uint16_t)(round % 2 ? 260 : 8 + below(253)), .n200 = 3};
         machine *one = with_link(&config), *other = with_link(&config);
         u32 length = 266 + below(LONGEST - 266), at = OWN(one)->octets - LONGEST;
         for (u32 i = 0; i < length; i++)
@@ -138,7 +140,8 @@ static void octets(void) {
 /* ---- A start for octets, which takes the most stack ---------------------------------------------------------------- */
 
 static void start_of_octets(void) {
-    static const lapd_config most = {64, 8, 127, 127, 127, 16, 16, 8192, 260, 10, LAPD_NETWORK, 0, 0, LAPD_PROFILE};
+    static const lapd_config most = {.lines = 64, .terminals = 8, .k = 127, .k16 = 127, .queue = 127, .unit_queue = 16, .control = 16,
+                                     .slots = 8192, .n201 = 260, .n200 = 10};
     machine *instance = filled(lapd_card_octets(&most));
     put_lapd_config(instance, OTHER, &most);
     u32 status = w2c_lapd_card_start(instance, HANDLE, OTHER);

@@ -19,13 +19,16 @@ enum { MOST_IMAGE = 1 << 20 };
 #define BESIDES(config) (EACH == 0 ? 0 : EACH + (uint64_t)(lapd_image_octets(config) + 15) / 16 * 16)
 
 static const lapd_config configs[] = {
-    {1, 1, 1, 1, 1, 1, 2, 1, 8, 0, LAPD_NETWORK, 0, 0, LAPD_PROFILE},
-    {1, 8, 7, 7, 8, 4, 4, 64, 260, 3, LAPD_NETWORK, 0, 0, LAPD_PROFILE},
-    {4, 4, 7, 3, 16, 8, 8, 300, 128, 3, LAPD_USER, 0, 0, LAPD_PROFILE},
-    {64, 1, 1, 1, 1, 1, 2, 1, 8, 0, LAPD_TERMINAL, 0, 0, LAPD_PROFILE},
-    {64, 8, 7, 7, 8, 4, 4, 1024, 260, 3, LAPD_TERMINAL, 0, 0, LAPD_PROFILE},
-    {64, 8, 7, 7, 8, 4, 4, 1024, 260, 3, LAPD_NETWORK, 0, 0, LAPD_PROFILE},
-    {64, 1, 1, 1, 1, 1, 2, 1, 8, 0, LAPD_NETWORK, 0, 0, LAPD_PROFILE},
+    {.lines = 1, .terminals = 1, .k = 1, .k16 = 1, .queue = 1, .unit_queue = 1, .control = 2, .slots = 1, .n201 = 8, .n200 = 0},
+    {.lines = 1, .terminals = 8, .k = 7, .k16 = 7, .queue = 8, .unit_queue = 4, .control = 4, .slots = 64, .n201 = 260, .n200 = 3},
+    {.lines = 4, .terminals = 4, .k = 7, .k16 = 3, .queue = 16, .unit_queue = 8, .control = 8, .slots = 300, .n201 = 128, .n200 = 3,
+     .side = LAPD_USER},
+    {.lines = 64, .terminals = 1, .k = 1, .k16 = 1, .queue = 1, .unit_queue = 1, .control = 2, .slots = 1, .n201 = 8, .n200 = 0,
+     .side = LAPD_TERMINAL},
+    {.lines = 64, .terminals = 8, .k = 7, .k16 = 7, .queue = 8, .unit_queue = 4, .control = 4, .slots = 1024, .n201 = 260, .n200 = 3,
+     .side = LAPD_TERMINAL},
+    {.lines = 64, .terminals = 8, .k = 7, .k16 = 7, .queue = 8, .unit_queue = 4, .control = 4, .slots = 1024, .n201 = 260, .n200 = 3},
+    {.lines = 64, .terminals = 1, .k = 1, .k16 = 1, .queue = 1, .unit_queue = 1, .control = 2, .slots = 1, .n201 = 8, .n200 = 0},
 };
 
 /* So many octets that lie together are free; each is written and read. */

@@ -17,7 +17,8 @@
 
 enum { LINES = 64, TERMINALS = 8, QUEUE = 8, MOST_TURNS = 1000 };
 
-static const lapd_config config = {LINES, TERMINALS, 7, 7, QUEUE, 4, 4, LINES * TERMINALS * 2 * QUEUE, 260, 3, LAPD_NETWORK, 0, 0, LAPD_PROFILE};
+static const lapd_config config = {.lines = LINES, .terminals = TERMINALS, .k = 7, .k16 = 7, .queue = QUEUE, .unit_queue = 4, .control = 4,
+                                   .slots = LINES * TERMINALS * 2 * QUEUE, .n201 = 260, .n200 = 3};
 static const lapd_lengths lengths = LAPD_DEFAULT_LENGTHS;
 static lapd_report report;
 

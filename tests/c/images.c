@@ -39,7 +39,8 @@ typedef struct {
     uint8_t octets[MOST_IMAGE], clock[MOST_IMAGE];
 } image;
 
-static lapd_config config = {LINES, 3, 2, 1, 2, 2, 4, 14, 16, 2, LAPD_NETWORK, 0, 0, LAPD_PROFILE};
+static lapd_config config = {.lines = LINES, .terminals = 3, .k = 2, .k16 = 1, .queue = 2, .unit_queue = 2, .control = 4, .slots = 14,
+                             .n201 = 16, .n200 = 2};
 static const lapd_lengths lengths = {100, 1000, 150, 250};
 static side ends[ENDS];
 static hdlc_sender senders[LINES];

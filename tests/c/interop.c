@@ -263,7 +263,8 @@ static void want_state(uint8_t wanted) {
     exit(1);
 }
 
-static const lapd_config config = {1, 8, 7, 7, 8, 4, 4, 64, 260, 3, LAPD_NETWORK, 0, 0, LAPD_PROFILE};
+static const lapd_config config = {.lines = 1, .terminals = 8, .k = 7, .k16 = 7, .queue = 8, .unit_queue = 4, .control = 4, .slots = 64,
+                                   .n201 = 260, .n200 = 3};
 
 /* The exchange starts anew, and knows no TEI. */
 static void restart(void) {

@@ -3,15 +3,19 @@
 //
 //     node limits.mjs PAGE.html    the page's program: the largest card is out of memory, and a small one plays
 //     node limits.mjs lapd.wasm    the library: starts are refused memory, and what they took is given back; and with memory
-//                                  that grows, thirty-two largest cards start, the last as soon as the first
+//                                  that grows, thirty-two largest cards start, the last by as many steps as the first. wasm-opt
+//                                  has each call of a function and each round of a loop counted: no time is measured
 //
 // Status 1 where it does anything else.
-import { readFileSync } from "node:fs";
+import { spawnSync } from "node:child_process";
+import { mkdtempSync, readFileSync, rmSync } from "node:fs";
+import { tmpdir } from "node:os";
 import { NoMemory, Program } from "../../web/program.mjs";
 
 const PAGES = 40; // 2.6 MB, less than the largest card takes
 const MEMORY = 5; // the section of a module that says how large its memory is
 const CARDS = 32;
+const MORE = 2; // times as many steps as the first start takes another may take
 const LARGEST = "card 64 8 127 127 16 16 8192 260 10 127\n";
 const SMALL = "card 1 8 7 8 4 4 64 260 3\nassign 0 64\nstored\n";
 const STORED = "stored 0 limit 17470\n";
@@ -60,8 +64,8 @@ function inPage(text) {
 }
 
 /** The library, with places for a configuration and for handles. */
-function library(octets) {
-  const lapd = new WebAssembly.Instance(new WebAssembly.Module(octets)).exports;
+function library(octets, imports = {}) {
+  const lapd = new WebAssembly.Instance(new WebAssembly.Module(octets), imports).exports;
   const config = lapd.module_take(32n);
   const write = (fields) => new Uint16Array(lapd.memory.buffer, Number(config), fields.length).set(fields);
   const handle = () => lapd.module_take(16n);
@@ -88,25 +92,37 @@ function inLittle(octets) {
   if (taken < 10) fail(`${taken} places`);
 }
 
-function many(octets) {
-  const { lapd, config, write, handle } = library(octets);
+/** The library with its steps told, as octets: it calls `env.log_execution` at each. */
+function telling(path) {
+  const folder = mkdtempSync(`${tmpdir()}/limits-`);
+  try {
+    const said = spawnSync("wasm-opt", ["-all", "--log-execution", path, "-o", `${folder}/telling.wasm`], { encoding: "utf8" });
+    if (said.status !== 0) fail(`wasm-opt: ${said.error ?? said.stderr}`);
+    return readFileSync(`${folder}/telling.wasm`);
+  } finally {
+    rmSync(folder, { recursive: true });
+  }
+}
+
+function many(path) {
+  let steps = 0;
+  const { lapd, config, write, handle } = library(telling(path), { env: { log_execution: () => (steps += 1) } });
   write(MOST);
-  const took = Array.from({ length: CARDS }, () => {
-    const begin = performance.now();
+  const took = [];
+  while (took.length < CARDS) {
+    steps = 0;
     const status = lapd.lapd_card_start(handle(), config);
     if (status !== 0) fail(`one of ${CARDS} largest cards: status ${status}`);
-    return performance.now() - begin;
-  });
-  const slowest = Math.max(...took.slice(1));
-  console.log(`the largest cards: ${took[0].toFixed(0)} ms the first, ${slowest.toFixed(0)} ms at most`);
-  if (slowest > 1000) fail("a start takes too long");
+    took.push(steps);
+    if (steps === 0 || steps > MORE * took[0]) fail(`card ${took.length} starts by ${steps} steps, the first by ${took[0]}`);
+  }
+  console.log(`the largest cards: ${took[0]} steps the first, ${Math.max(...took.slice(1))} at most`);
 }
 
 const [path] = process.argv.slice(2);
 if (path.endsWith(".html")) {
   inPage(readFileSync(path, "utf8"));
 } else {
-  const octets = readFileSync(path);
-  inLittle(octets);
-  many(octets);
+  inLittle(readFileSync(path));
+  many(path);
 }

@@ -10,7 +10,8 @@
 enum { TEI = 5, MOST = 65535 };
 
 static const lapd_lengths lengths = LAPD_DEFAULT_LENGTHS;
-static lapd_config config = {2, 2, 7, 7, 8, 4, 4, 40, 260, 3, LAPD_NETWORK, 0, 0, LAPD_PROFILE};
+static lapd_config config = {.lines = 2, .terminals = 2, .k = 7, .k16 = 7, .queue = 8, .unit_queue = 4, .control = 4, .slots = 40,
+                             .n201 = 260, .n200 = 3};
 static lapd_card near = LAPD_CARD_NONE, far = LAPD_CARD_NONE;
 static lapd_report report;
 static uint64_t now;

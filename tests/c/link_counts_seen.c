@@ -116,7 +116,8 @@ static void meets(int card) {
 
 static void starts(unsigned seed) {
     static const uint8_t windows[] = {1, 3, 7, 127};
-    lapd_config config = {1, 1, 7, 7, 127, 4, 4, 300, 260, 0, LAPD_NETWORK, 0, 0, LAPD_PROFILE};
+    lapd_config config = {.lines = 1, .terminals = 1, .k = 7, .k16 = 7, .queue = 127, .unit_queue = 4, .control = 4, .slots = 300,
+                          .n201 = 260, .n200 = 0};
     config.k = windows[below(4)];
     config.n200 = (uint8_t)below(4);
     config.reading = seed % 2 ? LAPD_PROFILE : LAPD_ANNEX_B;

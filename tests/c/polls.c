@@ -139,7 +139,8 @@ static bool is_up(keeper by, uint32_t line, unsigned link) {
 
 /* All its links are up: one of each line, or sixteen, each since a moment of its own. */
 static bool start(keeper by) {
-    const lapd_config config = {(uint16_t)lines, 8, 7, 7, 8, 4, 4, 8, 260, 3, LAPD_NETWORK, 0, 0, LAPD_PROFILE};
+    const lapd_config config = {.lines = (uint16_t)lines, .terminals = 8, .k = 7, .k16 = 7, .queue = 8, .unit_queue = 4, .control = 4,
+                                .slots = 8, .n201 = 260, .n200 = 3};
     bool is_there = by == OWN ? lapd_card_start_frames_timed(&card, &config, &lengths) == LAPD_OK
                               : lapd_card_start_frames(&card, &config) == LAPD_OK && lapd_clock_start(&timers, &config) == LAPD_OK
                                     && lapd_clock_set_lengths(&timers, lengths.t200, lengths.t203, lengths.t201, lengths.t202) == LAPD_OK;

@@ -11,7 +11,8 @@
 
 enum { LINES = 2, PLACES = 254, QUEUE = 2, ROUNDS = 200000 };
 
-static const lapd_config config = {LINES, 2, 2, 2, 2, 2, 4, 64, 16, 1, LAPD_NETWORK, 0, 0, LAPD_PROFILE};
+static const lapd_config config = {.lines = LINES, .terminals = 2, .k = 2, .k16 = 2, .queue = 2, .unit_queue = 2, .control = 4, .slots = 64,
+                                   .n201 = 16, .n200 = 1};
 static lapd_card card = LAPD_CARD_NONE;
 static lapd_report report;
 static bool waits[LINES][PLACES];

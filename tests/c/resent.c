@@ -12,7 +12,8 @@
 enum { TEI = 5, LINKS = 2, MANY = 20000, MOST_WAITING = 100, MOST_IN_TRANSIT = 256, QUIET = 120000, STEP = 10 };
 
 static const lapd_lengths lengths = {200, 2000, 1000, 2000};
-static lapd_config config = {1, 1, 7, 7, 8, 4, 4, 40, 260, 3, LAPD_NETWORK, 0, 0, LAPD_PROFILE};
+static lapd_config config = {.lines = 1, .terminals = 1, .k = 7, .k16 = 7, .queue = 8, .unit_queue = 4, .control = 4, .slots = 40,
+                             .n201 = 260, .n200 = 3};
 /* The card of the near end, and that of the far one. */
 static lapd_card card = LAPD_CARD_NONE, far_card = LAPD_CARD_NONE;
 static lapd_report report;

@@ -28,7 +28,8 @@ static ucontext_t here, there;
 static lapd_card card, other;
 static lapd_clock timers, other_timers;
 static lapd_report report;
-static const lapd_config config = {1, 8, 7, 7, 8, 4, 4, 8, 260, 3, LAPD_NETWORK, 0, 0, LAPD_PROFILE};
+static const lapd_config config = {.lines = 1, .terminals = 8, .k = 7, .k16 = 7, .queue = 8, .unit_queue = 4, .control = 4, .slots = 8,
+                                   .n201 = 260, .n200 = 3};
 static const lapd_lengths lengths = {1000, 10000, 1000, 2000};
 
 /* What is called, and what it is called with. */

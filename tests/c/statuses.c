@@ -73,7 +73,8 @@ static lapd_timer timer(void) {
 }
 
 static lapd_config config(void) {
-    lapd_config it = {2, 2, 1, 1, 1, 1, 2, 2, 8, 1, LAPD_NETWORK, 0, 0, LAPD_PROFILE};
+    lapd_config it = {.lines = 2, .terminals = 2, .k = 1, .k16 = 1, .queue = 1, .unit_queue = 1, .control = 2, .slots = 2, .n201 = 8,
+                      .n200 = 1};
     uint16_t fields[FIELDS];
     memcpy(fields, &it, sizeof fields);
     fields[FIELDS - 4] = (uint16_t)below(3);

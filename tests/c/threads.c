@@ -12,7 +12,8 @@ enum { THREADS = 32, CARDS = 8, POLLS = 60 };
 
 /* A card is started, a link comes up, is polled with data both ways, and the card ends. */
 static bool converses(void) {
-    static const lapd_config config = {1, 8, 7, 7, 8, 4, 4, 8, 260, 3, LAPD_NETWORK, 0, 0, LAPD_PROFILE};
+    static const lapd_config config = {.lines = 1, .terminals = 8, .k = 7, .k16 = 7, .queue = 8, .unit_queue = 4, .control = 4, .slots = 8,
+                                       .n201 = 260, .n200 = 3};
     static const uint8_t sabme[] = {0x00, 0x81, 0x7F}, poll[] = {0x00, 0x81, 0x01, 0x01};
     lapd_card card = LAPD_CARD_NONE;
     lapd_clock timers = LAPD_CLOCK_NONE;

@@ -18,7 +18,8 @@
 
 enum { TURNS = 60000, LINES = 3, LOOKS_EACH = 500, MOST_RUN = 40 };
 
-static lapd_config config = {LINES, 4, 3, 1, 4, 2, 4, 20, 16, 2, LAPD_NETWORK, 0, 0, LAPD_PROFILE};
+static lapd_config config = {.lines = LINES, .terminals = 4, .k = 3, .k16 = 1, .queue = 4, .unit_queue = 2, .control = 4, .slots = 20,
+                             .n201 = 16, .n200 = 2};
 static const lapd_lengths lengths = {100, 1000, 150, 250};
 static lapd_card timed = LAPD_CARD_NONE, plain = LAPD_CARD_NONE;
 static lapd_clock timers = LAPD_CLOCK_NONE;

@@ -11,7 +11,8 @@
 
 enum { LENGTH = 40 };
 
-static const lapd_config config = {1, 8, 7, 7, 8, 4, 4, 64, 260, 3, LAPD_NETWORK, 0, 0, LAPD_PROFILE};
+static const lapd_config config = {.lines = 1, .terminals = 8, .k = 7, .k16 = 7, .queue = 8, .unit_queue = 4, .control = 4, .slots = 64,
+                                   .n201 = 260, .n200 = 3};
 static lapd_card card = LAPD_CARD_NONE;
 static const lapd_lengths lengths = {.t200 = 1000, .t203 = 10000, .t201 = 1000, .t202 = 2000};
 static lapd_report report;

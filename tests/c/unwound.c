@@ -46,7 +46,8 @@ void rattle_dealloc(void *at) {
 }
 
 int main(void) {
-    static const lapd_config config = {1, 8, 1, 3, 8, 4, 4, 64, 260, 3, LAPD_NETWORK, 0, 0, LAPD_PROFILE};
+    static const lapd_config config = {.lines = 1, .terminals = 8, .k = 1, .k16 = 3, .queue = 8, .unit_queue = 4, .control = 4, .slots = 64,
+                                       .n201 = 260, .n200 = 3};
     enum { OWN = 3 }; /* main, rattle_alloc, and a function between them at least */
     lapd_card card = LAPD_CARD_NONE;
     if (lapd_card_start(&card, &config) != LAPD_OK || lapd_card_free(&card) != LAPD_OK || deepest < OWN) {

@@ -1,6 +1,5 @@
 """A browser without a window, driven over a pipe by the DevTools protocol: messages of JSON, each ended by a zero octet."""
 import base64
-import bisect
 import json
 import os
 import select
@@ -14,7 +13,6 @@ NAMES = "chromium", "chromium-browser", "google-chrome-stable", "google-chrome"
 FLAGS = ["--headless=new", "--remote-debugging-pipe", "--no-first-run", "--no-default-browser-check", "--disable-gpu",
          "--disable-extensions", "--disable-background-networking", "--disable-dev-shm-usage", "--hide-scrollbars",
          "--disable-ipc-flooding-protection"]  # scripts come by the address as fast as they are played
-TASK = "ThreadControllerImpl::RunTask"  # a task of a thread, as the browser's notes name it
 
 
 def program() -> Optional[str]:
@@ -120,48 +118,6 @@ class Browser:
             if time.monotonic() - begin > seconds:
                 raise Lost(f"{expression}: not within {seconds} seconds")
             time.sleep(0.02)
-
-    def of_all(self, command: str, **parameters: Any) -> dict:
-        """Gives a command that is about the whole browser."""
-        session, self.session = self.session, None
-        try:
-            return self.ask(command, **parameters)
-        finally:
-            self.session = session
-
-    def watch_tasks(self) -> None:
-        """From now on what the pages' own threads do is noted, task by task, and each mark that a page sets."""
-        what = {"includedCategories": ["toplevel", "blink.user_timing"], "excludedCategories": ["*"]}
-        self.of_all("Tracing.start", transferMode="ReportEvents", traceConfig=what)
-
-    def traced(self) -> List[dict]:
-        """What was noted since then."""
-        self.events.clear()
-        self.of_all("Tracing.end")
-        found: List[dict] = []
-        end = time.monotonic() + 60
-        while True:
-            it = self.events.pop(0) if self.events else self.message(end)
-            if it.get("method") == "Tracing.dataCollected":
-                found += it["params"]["value"]
-            if it.get("method") == "Tracing.tracingComplete":
-                return found
-
-    def longest_stretch(self, mark: str) -> float:
-        """The most seconds of the processor that a page's own thread took between two marks of this name: so long it was not
-        there for others, however busy the machine is."""
-        found = self.traced()
-        names = [it for it in found if it["name"] == "thread_name" and it["args"]["name"] == "CrRendererMain"]
-        own = [it for it in found if it["tid"] in {it["tid"] for it in names}]
-        tasks = sorted((it["ts"], it.get("tdur", it["dur"])) for it in own if it["name"] == TASK and it.get("dur"))
-        marks = sorted(it["ts"] for it in own if it["name"] == mark)
-        if len(marks) < 2 or not tasks:
-            raise Lost(f"{len(marks)} marks and {len(tasks)} tasks were noted")
-        stretches: Dict[int, int] = {}
-        for begun, took in tasks:
-            at = bisect.bisect(marks, begun)
-            stretches[at] = stretches.get(at, 0) + took
-        return max(stretches.values()) / 1e6
 
     def key(self, name: str, code: int, modifiers: int = 0, text: str = "") -> None:
         more = {"text": text} if text else {}

@@ -8,40 +8,12 @@ from typing import Iterator, List, Tuple
 
 from browser import Browser, Lost
 from shown import Page, differences, fragment
+from turns import counted, too_much
 from vithrynel.story import COMMENT
 from wanted import Played
 
 MANY = 40  # scripts that are shown in one go
-# For how many seconds the page may be away at most, on a machine that does nothing else; or for twice as long as a bare field.
-AWAY = 2.0
-# Work of a known length, in the page: where it takes longer than on such a machine, all else does, too.
-PACE = """(() => {
-    const begun = performance.now();
-    let it = 0;
-    for (let i = 0; i < 5e7; i++)
-        it = (Math.imul(it, 31) + i) | 0;
-    return performance.now() - begun + 0 * it;
-})()"""
-QUIET = 0.45  # seconds that it takes there at most, as measured in Chromium (0.38 to 0.44)
-# A page of nothing but a field, which a script fills: the browser's own part of what a long one takes.
-BARE = """{
-    document.body.innerHTML = "<textarea rows=20 cols=80 spellcheck=false></textarea>";
-    window.away = 0;
-    let latest = performance.now();
-    setInterval(() => {
-        const now = performance.now();
-        window.away = Math.max(window.away, now - latest);
-        latest = now;
-        performance.mark("awake");
-    }, 10);
-    window.fill = (script) => new Promise((go) => {
-        const text = document.querySelector("textarea");
-        text.focus();
-        text.value = script;
-        setTimeout(go, 100);
-    });
-}"""
-TRIES = 8  # of which the best counts, since a busy machine also makes tasks longer; none comes after one that is short enough
+LONG = 600  # seconds, after which nothing comes any more
 LOST = "conversation/frame-lost"  # the script of the menu in which a frame is lost
 
 
@@ -149,7 +121,7 @@ def explains_whole(page: Page, scripts: List[Played]) -> Iterator[str]:
     page.type("card 1 8 7 8 4 4 64 260 3\n" + "assign 0 64\n" * 60)
     page.browser.value("{const text = document.getElementById('text'); text.setSelectionRange(1e6, 1e6); text.scrollTo(0, 1e6);}")
     page.type("card 1 8 7 8 4 4 64 260 3\n" + "assign 0 64\n" * 60 + "wait 9999999")
-    page.browser.value("new Promise((go) => setTimeout(go, 100))")
+    page.browser.value("new Promise((go) => requestAnimationFrame(() => requestAnimationFrame(go)))")
     if page.browser.value("(({ scrollTop, clientHeight }) => scrollTop + clientHeight < 62 * 20)(document.getElementById('text'))"):
         yield "the line that is being written is out of view"
 
@@ -181,8 +153,8 @@ def puts_examples(page: Page, scripts: List[Played]) -> Iterator[str]:
             yield f"at {size[0]} pixels Help says where the script is"
         page.browser.value("document.getElementById('text').setSelectionRange(1000, 1000)")
         page.browser.value("[...document.querySelectorAll('#frames button')].find((it) => it.textContent === 'in 0 00817F').click()")
-        page.browser.until("document.getElementById('text').value.endsWith('\\nin 0 00817F\\n')", 5)
-        page.browser.until("isPlayed()", 5)
+        page.browser.until("document.getElementById('text').value.endsWith('\\nin 0 00817F\\n')")
+        page.browser.until("isPlayed()")
         got = page.look()
         if not any("establish-indication 64" in row[1] for row in got["ladders"][0]["rows"]):
             yield f"at {size[0]} pixels: {got['ladders']}"
@@ -297,7 +269,6 @@ def has_fields(page: Page, scripts: List[Played]) -> Iterator[str]:
         ("rows", "annex-b", "frames 1 8 3 8 4 4 64 260 3 2 user 4660 sapi 62 annex-b"),
     ]:
         page.browser.value(f"change({json.dumps(name)}, {json.dumps(value)})")
-        time.sleep(0.2)
         after = page.look()["text"].split("\n")
         if after[1] != wanted or after[:1] + after[2:] != before[:1] + before[2:]:
             yield f"{name} {value}: {after[1]!r}, wanted {wanted!r}"
@@ -326,35 +297,6 @@ def links(page: Page, scripts: List[Played]) -> Iterator[str]:
         yield f"it is saved as {page.browser.value('named')}"
 
 
-def away_for(page: Page, name: str, script: str) -> float:
-    """For how many seconds at most the page is away while it plays a script: as a clock in the page has it, and no longer
-    than it had the processor between two moments of that clock, since other tests run beside this one; and as many fewer as
-    the machine is slower now than one that does nothing else."""
-    page.open()
-    page.browser.value("watch()")
-    page.browser.watch_tasks()
-    begun = time.monotonic()
-    page.browser.value(f"type({json.dumps(script)})", 90)
-    took = time.monotonic() - begun
-    page.browser.value("new Promise((go) => setTimeout(go, 50))")
-    away, longest = page.browser.value("away") / 1000, page.browser.longest_stretch("awake")
-    if os.environ.get("PAGE_TIMES"):
-        print(f"page: {name}: away {away:.2f} s, {longest:.2f} s of the processor, done after {took:.2f} s")
-    slower = max(1, page.browser.value(PACE, 90) / 1000 / QUIET)
-    return min(away, longest) / slower
-
-
-def bare_for(page: Page, script: str) -> float:
-    """For how many seconds a page is away that has nothing but a field into which that script comes, as away_for has it."""
-    page.browser.ask("Page.navigate", url="about:blank")
-    page.browser.value(BARE)
-    page.browser.watch_tasks()
-    page.browser.value(f"fill({json.dumps(script)})", 90)
-    away, longest = page.browser.value("away") / 1000, page.browser.longest_stretch("awake")
-    slower = max(1, page.browser.value(PACE, 90) / 1000 / QUIET)
-    return min(away, longest) / slower
-
-
 def is_awake(page: Page, scripts: List[Played]) -> Iterator[str]:
     """What is long or wild does not take the page away."""
     numbers = random.Random(921)
@@ -370,17 +312,17 @@ def is_awake(page: Page, scripts: List[Played]) -> Iterator[str]:
         "ten thousand events": f"card 1 8 7 8 4 4 64 260 3\nassign 0 64\nin 0 00817F\npull 0 20\n{turns}",
         "ten thousand waits": "card 1 8 7 8 4 4 64 260 3\nassign 0 64\n" + "establish 0 64\nwait 3600000\nstored\n" * 3334,
     }
-    for name, script in cases.items():
-        tries, most = [], AWAY
-        while len(tries) < TRIES and min(tries, default=most + 1) > most:
-            tries.append(away_for(page, name, script))
-            played = page.browser.value("isPlayed()")
-            if min(tries) > most:
-                most = max(most, 2 * bare_for(page, script))
-        if min(tries) > most:
-            yield f"{name}: it is away for {min(tries):.1f} seconds, where {most:.1f} are allowed"
-        if not played:
-            yield f"{name}: it is not played"
+    with counted(page.browser):
+        for name, script in cases.items():
+            page.open()
+            page.browser.value("turns.begin()")
+            page.browser.value(f"type({json.dumps(script)})", LONG)
+            most = page.browser.value("turns.most()")
+            if os.environ.get("PAGE_TURNS"):
+                print(f"page: {name}: at most {most} of {len(script)} signs")
+            yield from (f"{name}: {it}" for it in too_much(most, script))
+            if not page.browser.value("isPlayed()"):
+                yield f"{name}: it is not played"
 
 
 def can_be_stopped(page: Page, scripts: List[Played]) -> Iterator[str]:
@@ -390,12 +332,12 @@ def can_be_stopped(page: Page, scripts: List[Played]) -> Iterator[str]:
     script = f"card 1 8 7 8 4 4 64 260 3\nassign 0 64\nin 0 00817F\npull 0 20\n{turns}"
     page.browser.value(f"void type({json.dumps(script)})")
     try:
-        page.browser.until("!document.getElementById('progress').hidden", 10)
+        page.browser.until("!document.getElementById('progress').hidden")
         words = page.browser.value("document.getElementById('progress-words').textContent")
         if not words:
             yield "nothing is told while it is played"
         page.click("#stop")
-        page.browser.until("isPlayed()", 2)
+        page.browser.until("isPlayed()")
     except Lost as lost:
         yield str(lost)
     got = page.look()
@@ -415,7 +357,7 @@ def fits(page: Page, scripts: List[Played]) -> Iterator[str]:
         yield "it is as light in the dark"
     for width in (360, 390, 768):
         page.browser.size(width, 780, is_phone=True)
-        page.browser.until(f"innerWidth === {width}", 5)
+        page.browser.until(f"innerWidth === {width}")
         wide = page.browser.value("document.scrollingElement.scrollWidth")
         if wide > width:
             yield f"at {width} pixels it is {wide} wide"
@@ -446,15 +388,15 @@ def is_read_when_low(page: Page, scripts: List[Played]) -> Iterator[str]:
         yield "the form is closed where there is room"
     page.browser.value("document.querySelector('#fields [name=K]').focus()")
     page.browser.size(1000, 420)
-    page.browser.until("innerHeight === 420", 5)
+    page.browser.until("innerHeight === 420")
     if not page.browser.value(is_open):
         yield "the form is closed while it is filled in"
     page.browser.size(1000, 700)
-    page.browser.until("innerHeight === 700", 5)
+    page.browser.until("innerHeight === 700")
     page.browser.value("document.activeElement.blur()")
     page.browser.size(1000, 420)
     try:
-        page.browser.until(f"!{is_open}", 5)
+        page.browser.until(f"!{is_open}")
     except Lost:
         yield "the form stays open as the window gets low"
 

@@ -69,17 +69,6 @@ window.type = async (script) => {
   text.dispatchEvent(new Event("input"));
   await played();
 };
-window.watch = () => {
-  window.away = 0;
-  let latest = performance.now();
-  clearInterval(window.watching);
-  window.watching = setInterval(() => {
-    const now = performance.now();
-    window.away = Math.max(window.away, now - latest);
-    latest = now;
-    performance.mark("awake");
-  }, 10);
-};
 """
 
 

@@ -74,10 +74,6 @@ rests-alone h line tei service d es x d_is now most orders alone =
     subst (λ os. AreAt (IsOnAmid e m) (record h { moments = es }) m (obeyed line os c)) (sym alone)
     (rests m e reached here h c amid line tei service (h.now + d) es x (ap (λ n. h.now + n) d_is) (omega (arith, now, most))))
 
--- Where there is no order, the timers stand as they did.
-pub rested : (h : HeldTimers) (line : ℕ) (orders : List Order) → orders ≡ [] → IsCarriedOut h line orders h
-rested h line orders none = carried-alone h line orders h (λ e m c reached here amid. subst (λ os. AreAt (IsOnAmid e m) h m (obeyed line os c)) (sym none) amid)
-
 module _ {S : Type 0} (store : S → Store) (card : Held S) (h : HeldTimers) (line : ℕ) (within : line < h.lines) where
   at-line : (e : Event) (m : Card) → HasLedTo store card line e m → e.line < m.config.lines
   at-line e m led = subst (λ n. n < m.config.lines) (sym led.line_is) led.line_there

@@ -25,7 +25,8 @@ impl CardTimers {
     /// Carries out what a card has ordered at a line, in the answer to an event, at the moment. The card is where the event has
     /// led; the event was no expiry but of the timer that [`CardTimers::due`] has just taken out.
     ///
-    /// Mostly there is one order, for the T203 that falls due first of its line, and then no place is looked for.
+    /// Mostly there is one order, for the T203 that falls due first of its line; or there are two, by which T200 and T203 of a
+    /// link take turns. Then no place is looked for.
     // It stands apart, so that a card without timers of its own has no part of it in its way.
     #[inline(never)]
     pub fn obey<S: Shelf>(&mut self, card: &FrameCard<S>, line: usize, orders: &[Order])
@@ -36,8 +37,16 @@ impl CardTimers {
         ensures after { (e : Event) (m : Card) (c : Clock) → HasLedTo S.store card.now line e m → orders.now ≡ orders_at e m → AreLeft e self.old m c
             → TimersStand self.new (after e m) (obeyed line orders.now c) }
     {
-        if !self.restart_alone(line, orders) {
-            self.obey_more(card, line, orders);
+        if self.restart_alone(line, orders) {
+            return;
+        }
+        if line >= self.lines || line >= card.lines() {
+            return;
+        }
+        if !self.exchange(card, line, orders) {
+            for order in orders {
+                self.carry_out(card, line, *order);
+            }
         }
     }
 
@@ -56,78 +65,12 @@ impl CardTimers {
         ensures after { (e : Event) (m : Card) (c : Clock) → HasLedTo S.store card.now line e m → listed orders.now ≡ orders_at e m → AreLeft e self.old m c
             → TimersStand self.new (after e m) (obeyed line (listed orders.now) c) }
     {
-        match orders {
-            ShortList::One(order) => {
-                if !self.restart_alone(line, order) {
-                    self.obey_more(card, line, order);
-                }
+        if let ShortList::One(order) = orders {
+            if self.restart_alone(line, order) {
+                return;
             }
-            _ => self.obey_others(card, line, orders),
         }
-    }
-
-    /// The same where there is none, or more than one.
-    #[inline(never)]
-    fn obey_others<S: Shelf>(&mut self, card: &FrameCard<S>, line: usize, orders: &ShortList<Order>)
-        ensures lines { self.new.lines ≡ self.old.lines }
-        ensures terminals { self.new.terminals ≡ self.old.terminals }
-        ensures changes { self.new.changes ≡ self.old.changes }
-        ensures after { (e : Event) (m : Card) (c : Clock) → HasLedTo S.store card.now line e m → listed orders.now ≡ orders_at e m → AreLeft e self.old m c
-            → TimersStand self.new (after e m) (obeyed line (listed orders.now) c) }
-    {
-        match orders {
-            ShortList::None => {}
-            ShortList::Two(two) => {
-                if !self.exchange_alone(line, two) {
-                    self.obey_in_places(card, line, two);
-                }
-            }
-            _ => self.obey_in_places(card, line, orders.as_slice()),
-        }
-    }
-
-    /// Carries out the orders if there are others than a start of the T203 that falls due first.
-    ///
-    /// Mostly there are two, by which T200 and T203 of a link take turns, and then no place is looked for.
-    #[inline(never)]
-    fn obey_more<S: Shelf>(&mut self, card: &FrameCard<S>, line: usize, orders: &[Order])
-        ensures lines { self.new.lines ≡ self.old.lines }
-        ensures terminals { self.new.terminals ≡ self.old.terminals }
-        ensures changes { self.new.changes ≡ self.old.changes }
-        ensures after { (e : Event) (m : Card) (c : Clock) → HasLedTo S.store card.now line e m → orders.now ≡ orders_at e m → AreLeft e self.old m c
-            → TimersStand self.new (after e m) (obeyed line orders.now c) }
-    {
-        if !self.exchange_alone(line, orders) {
-            self.obey_in_places(card, line, orders);
-        }
-    }
-
-    /// Carries out the orders in their places, which are looked for.
-    #[inline(never)]
-    fn obey_in_places<S: Shelf>(&mut self, card: &FrameCard<S>, line: usize, orders: &[Order])
-        ensures lines { self.new.lines ≡ self.old.lines }
-        ensures terminals { self.new.terminals ≡ self.old.terminals }
-        ensures changes { self.new.changes ≡ self.old.changes }
-        ensures after { (e : Event) (m : Card) (c : Clock) → HasLedTo S.store card.now line e m → orders.now ≡ orders_at e m → AreLeft e self.old m c
-            → TimersStand self.new (after e m) (obeyed line orders.now c) }
-    {
-        if !self.exchange_in_places(card, line, orders) {
-            self.obey_each(card, line, orders);
-        }
-    }
-
-    /// Carries out each order in its place. It stands apart, since mostly it is not called.
-    #[inline(never)]
-    fn obey_each<S: Shelf>(&mut self, card: &FrameCard<S>, line: usize, orders: &[Order])
-        ensures lines { self.new.lines ≡ self.old.lines }
-        ensures terminals { self.new.terminals ≡ self.old.terminals }
-        ensures changes { self.new.changes ≡ self.old.changes }
-        ensures after { (e : Event) (m : Card) (c : Clock) → HasLedTo S.store card.now line e m → orders.now ≡ orders_at e m → AreLeft e self.old m c
-            → TimersStand self.new (after e m) (obeyed line orders.now c) }
-    {
-        if line < self.lines && line < card.lines() {
-            self.carry_out_all(card, line, orders);
-        }
+        self.obey(card, line, orders.as_slice());
     }
 
     /// Carries the orders out if there is one, which starts anew the T203 that falls due first of its line, and still does so
@@ -154,38 +97,13 @@ impl CardTimers {
         self.moments.restart(line, timer, due_at)
     }
 
-    /// Carries the orders out if they start T200 of a link and stop its T203, or the other way round, the one that stops falls
-    /// due first of its line, and the other does so then. Whether it is so; if not, nothing changes.
+    /// Carries the orders out if they start T200 of a link and stop its T203, or the other way round. If the one that stops falls
+    /// due first of its line, and the other does so then, no place is looked for; else those of the link are, once. Whether it is
+    /// so; if not, nothing changes.
     #[inline(always)]
-    fn exchange_alone(&mut self, line: usize, orders: &[Order]) -> bool
-        ensures lines { self.new.lines ≡ self.old.lines }
-        ensures terminals { self.new.terminals ≡ self.old.terminals }
-        ensures changes { self.new.changes ≡ self.old.changes }
-        ensures after { result ≡ true → (e : Event) (m : Card) (c : Clock) → e.line ≡ line → line < m.config.lines
-            → orders.now ≡ orders_at e m → AreLeft e self.old m c → TimersStand self.new (after e m) (obeyed line orders.now c) }
-        ensures unchanged { result ≡ false → self.new ≡ self.old }
-    {
-        if let Some((service, tei)) = link_sends(orders) {
-            let (stopped, started) = (Timer::T203(service, tei), Timer::T200(service, tei));
-            let due_at = self.moment + self.lengths.of(started);
-            return self.moments.exchange(line, stopped, started, false, due_at);
-        }
-        if let Some((service, tei)) = link_rests(orders) {
-            let (stopped, started) = (Timer::T200(service, tei), Timer::T203(service, tei));
-            let due_at = self.moment + self.lengths.of(started);
-            return self.moments.exchange(line, stopped, started, true, due_at);
-        }
-        false
-    }
-
-    /// The same in the places of the link, if its TEI is on the line: they are looked for once.
-    #[inline(always)]
-    fn exchange_in_places<S: Shelf>(
-        &mut self,
-        card: &FrameCard<S>,
-        line: usize,
-        orders: &[Order],
-    ) -> bool
+    fn exchange<S: Shelf>(&mut self, card: &FrameCard<S>, line: usize, orders: &[Order]) -> bool
+        requires line { line < self.old.lines }
+        requires card { line < line_count card.now }
         ensures lines { self.new.lines ≡ self.old.lines }
         ensures terminals { self.new.terminals ≡ self.old.terminals }
         ensures changes { self.new.changes ≡ self.old.changes }
@@ -193,47 +111,35 @@ impl CardTimers {
             → TimersStand self.new (after e m) (obeyed line orders.now c) }
         ensures unchanged { result ≡ false → self.new ≡ self.old }
     {
-        if line >= self.lines || line >= card.lines() {
-            return false;
-        }
         if let Some((service, tei)) = link_sends(orders) {
+            let (stopped, started) = (Timer::T203(service, tei), Timer::T200(service, tei));
+            let due_at = self.moment + self.lengths.of(started);
+            if self.moments.exchange(line, stopped, started, false, due_at) {
+                return true;
+            }
             let Some(number) = self.link(card, line, service, tei) else {
                 return false;
             };
-            let started = Timer::T200(service, tei);
-            let due_at = self.moment + self.lengths.of(started);
             self.moments
                 .start(slot(self.terminals, line, number, 2), started, due_at);
             self.moments.stop(slot(self.terminals, line, number, 3));
             return true;
         }
         if let Some((service, tei)) = link_rests(orders) {
+            let (stopped, started) = (Timer::T200(service, tei), Timer::T203(service, tei));
+            let due_at = self.moment + self.lengths.of(started);
+            if self.moments.exchange(line, stopped, started, true, due_at) {
+                return true;
+            }
             let Some(number) = self.link(card, line, service, tei) else {
                 return false;
             };
-            let started = Timer::T203(service, tei);
-            let due_at = self.moment + self.lengths.of(started);
             self.moments.stop(slot(self.terminals, line, number, 2));
             self.moments
                 .start(slot(self.terminals, line, number, 3), started, due_at);
             return true;
         }
         false
-    }
-
-    #[inline(always)]
-    fn carry_out_all<S: Shelf>(&mut self, card: &FrameCard<S>, line: usize, orders: &[Order])
-        requires line { line < self.old.lines }
-        requires card { line < line_count card.now }
-        ensures lines { self.new.lines ≡ self.old.lines }
-        ensures terminals { self.new.terminals ≡ self.old.terminals }
-        ensures changes { self.new.changes ≡ self.old.changes }
-        ensures after { (e : Event) (m : Card) (c : Clock) → HasLedTo S.store card.now line e m → orders.now ≡ orders_at e m → AreLeft e self.old m c
-            → TimersStand self.new (after e m) (obeyed line orders.now c) }
-    {
-        for order in orders {
-            self.carry_out(card, line, *order);
-        }
     }
 
     /// Carries out one order.

@@ -1,6 +1,5 @@
 -- What is remembered is read, one assignment after the other.
-use Rattle.lapd_tei.proofs.Vocabulary.{◌≡◌, ℕ, ◌<◌, ◌≤◌, ◌||◌, Bool, true, false, List, [], ◌∷◌, ◌++◌, length, length-append, ap, refl, sym, ◌∙◌, subst, arith, false≢true, list_any, All-append, All-cons, All-nil, AllByRecursion, IsDistinct, Places, Remembered, is_on, same_ri, same_tei}
-use Rattle.lapd_tei.proofs.Vocabulary.{AnnexB, IsAsRead, Profile, Reading, by_reading}
+use Rattle.lapd_tei.proofs.Vocabulary.{◌≡◌, ℕ, ◌<◌, ◌≤◌, ◌||◌, Bool, true, false, List, [], ◌∷◌, ◌++◌, length, length-append, ap, refl, sym, ◌∙◌, subst, arith, false≢true, list_any, All-append, All-cons, All-nil, AllByRecursion, IsDistinct, Places, Remembered, is_on, same_ri, same_tei, AnnexB, IsAsRead, Profile, Reading, by_reading}
 use Rattle.std.proofs.Common.{append_assoc}
 use Rattle.std.specs.Prelude.{flat_map}
 use Rattle.lapd_image.specs.Numbers.{list_of, number}

@@ -9,8 +9,7 @@ use Rattle.lapd_image.proofs.Reading.{Reads, heads, tails}
 use Rattle.lapd_image.proofs.ReadLists.{IsKept, none-more, read-more, read-none}
 use Rattle.model_teis.specs.TableImage.{IsTableOf, one_place, place, table}
 use Rattle.model_teis.proofs.OfNetwork.ImageRead.{place-read}
-use Rattle.model_teis.proofs.Tables.{at-within, at-off, at-is_on}
-use Rattle.model_teis.proofs.Tables.{table-empty}
+use Rattle.model_teis.proofs.Tables.{at-within, at-off, at-is_on, table-empty}
 
 -- a place that is free, or whose TEI a terminal can have
 abbrev pub IsPlace : Option ℕ → Type 0

@@ -18,8 +18,7 @@ pub use Rattle.model_teis.specs.declared.network.messages.Message.TheVariants.{I
 pub use Rattle.model_teis.specs.declared.network.messages.Message.{Message}
 pub use Rattle.model_teis.specs.network.Messages.{action_of, has_actions, names, responses_in}
 pub use Rattle.model_teis.specs.network.Rows.{count, counted, is_among, is_checked, respond}
-pub use Rattle.model_teis.specs.Table.{IsAt, IsSoundTable}
+pub use Rattle.model_teis.specs.Table.{IsAt, IsSoundTable, Places, is_on, place_of, teis_on}
 pub use Rattle.model_teis.specs.network.Sound.{AreSoundChecks, IsAsRead, IsSound, IsSoundCheck, IsSoundMemory, IsSoundQueue, MayBeDue, same_ri, same_tei}
-pub use Rattle.model_teis.specs.Table.{Places, is_on, place_of, teis_on}
 pub use Rattle.model_teis.specs.network.Words.{Course, begun, due_at, is_of_other, with_message}
 pub use Rattle.lapd_tei.specs.Outcome.{management_of}

@@ -12,6 +12,4 @@ pub use Rattle.std.proofs.lemmas.Option.{get_or_from_slice_get, none-some, same_
 pub use Rattle.std.specs.List.{All, AllByRecursion, filter, find, position_or_len}
 unfoldable pub use Rattle.std.specs.List.{IsDistinct}
 pub use Rattle.model_teis.specs.network.Laws.{IsLowestFree}
-pub use Rattle.model_teis.specs.Table.{IsAt, IsSoundTable}
-pub use Rattle.model_teis.specs.Table.{Places, automatic, free_place, free_tei, has, is_free, is_off, is_on, itself, place_of, teis_on}
-pub use Rattle.model_teis.specs.Table.{freed}
+pub use Rattle.model_teis.specs.Table.{IsAt, IsSoundTable, Places, automatic, free_place, free_tei, has, is_free, is_off, is_on, itself, place_of, teis_on, freed}

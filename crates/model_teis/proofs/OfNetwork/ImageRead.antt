@@ -12,8 +12,7 @@ use Rattle.model_teis.specs.Information.{information}
 use Rattle.model_teis.specs.network.Messages.{information_of}
 use Rattle.model_teis.specs.declared.network.messages.Message.{Message}
 use Rattle.model_teis.specs.declared.network.messages.Message.TheVariants.{IdentityAssigned, IdentityDenied, IdentityCheckRequest, IdentityRemove}
-use Rattle.model_teis.specs.Table.{IsAt}
-use Rattle.model_teis.specs.Table.{Places}
+use Rattle.model_teis.specs.Table.{IsAt, Places}
 use Rattle.lapd_image.specs.Numbers.{number, list_of}
 use Rattle.lapd_image.proofs.Reading.{heads, tails, split, Reads, number-read, list-read, all-unit}
 use Rattle.model_teis.specs.TableImage.{place}

@@ -12,16 +12,12 @@ pub use Rattle.std.proofs.lemmas.Bool.Decides.{nat_tests}
 pub use Rattle.std.proofs.lemmas.Option.{none-some, same_Some, slice_get_within, get_or_from_slice_get}
 pub use Rattle.std.specs.List.{All, AllByRecursion, count_by, filter, filter_map, fold, list_any, position, position_or_len, sum_by}
 pub use Rattle.std.specs.Option.{option_map}
-pub use Rattle.model_teis.specs.Table.{Places, free_place, has, is_on, place_of}
-pub use Rattle.model_teis.specs.Table.{IsAt, IsSoundTable}
-pub use Rattle.model_teis.specs.Table.{freed}
+pub use Rattle.model_teis.specs.Table.{Places, free_place, has, is_on, place_of, IsAt, IsSoundTable, freed, itself, named, teis_on}
 pub use Rattle.model_teis.specs.Changes.{left}
 pub use Rattle.model_teis.proofs.Lists.{All-filter_by}
-pub use Rattle.model_teis.proofs.Tables.{same_number, on-freed, on-newcomer, on-put, on-range, table-freed, table-put}
-pub use Rattle.model_teis.proofs.Tables.{table-empty}
+pub use Rattle.model_teis.proofs.Tables.{same_number, on-freed, on-newcomer, on-put, on-range, table-freed, table-put, table-empty}
 pub use Rattle.model_teis.specs.terminal.Machine.{Asking, Procedure, Terminal, Verifying, fresh}
 pub use Rattle.model_teis.specs.terminal.Messages.{IdentityCheckResponse, IdentityRequest, IdentityVerify, Message, action_of}
 pub use Rattle.model_teis.specs.terminal.Numbers.{next_number}
-pub use Rattle.model_teis.specs.Table.{itself, named, teis_on}
 pub use Rattle.model_teis.specs.terminal.Sound.{IsSound, IsSoundProcedure, IsSoundQueue, has_slot, is_asked, is_due, may_ask, may_verify, slot_of}
 pub use Rattle.model_teis.specs.terminal.Words.{is_other, is_request, is_response, is_response_of, is_verified, is_verify, put_at, with_request, with_verify}

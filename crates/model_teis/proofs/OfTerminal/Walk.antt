@@ -9,8 +9,7 @@ use Rattle.model_teis.specs.terminal.Messages.{Heard, IdentityAssigned, Identity
 use Rattle.model_teis.specs.Steps.{◌then◌}
 use Rattle.model_teis.specs.terminal.Words.{Course, Step, begun, note, unserved, ask, verify, end_procedure, join}
 use Rattle.model_teis.specs.terminal.Rows.{is_assignable, take_at, take_tei, assigned, denied, answered, checked, removed, removed_each, serve, give_up_asking, expire_procedure, join_at, take_off, end_if_any, withdraw_all}
-use Rattle.model_teis.specs.terminal.Events.{Event, message, expiry, assign, remove, down, refusal, unless_refused}
-use Rattle.model_teis.specs.terminal.Events.{ask as asking, verify as verifying}
+use Rattle.model_teis.specs.terminal.Events.{Event, message, expiry, assign, remove, down, refusal, unless_refused, ask as asking, verify as verifying}
 unfoldable use Rattle.model_teis.specs.terminal.Events.{course}
 
 -- What a claim has to say of each way in which an event ends.

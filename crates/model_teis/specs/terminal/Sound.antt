@@ -1,8 +1,7 @@
 -- What holds of TEI management of a terminal at all times, from a fresh line on.
 use Rattle.std.specs.Prelude.{◌≡◌, ℕ, ◌≤◌, ◌<◌, ◌==◌, Bool, true, false, List, length, All, Option, Some, None, IfSome}
 use Rattle.std.specs.List.{count_by}
-use Rattle.model_teis.specs.Table.{Places, is_on}
-use Rattle.model_teis.specs.Table.{IsSoundTable}
+use Rattle.model_teis.specs.Table.{Places, is_on, IsSoundTable}
 use Rattle.model_teis.specs.terminal.Messages.{Message, IdentityRequest, IdentityCheckResponse, IdentityVerify}
 use Rattle.model_teis.specs.terminal.Machine.{Terminal, Procedure, Asking, Verifying, most_requests, most_verifies}
 use Rattle.model_teis.specs.terminal.Words.{is_verified}

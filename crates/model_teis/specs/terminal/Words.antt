@@ -2,9 +2,8 @@
 use Rattle.std.specs.Prelude.{ℕ, Bool, true, false, not, ◌==◌, List, [], ◌∷◌, ◌++◌, filter, Option, Some, None, option_map, set, if◌then◌else◌}
 use Rattle.std.specs.List.{list_any, position}
 use Rattle.model_teis.specs.Steps.{◌then◌, nothing_happens}
-use Rattle.model_teis.specs.Table.{place_of}
+use Rattle.model_teis.specs.Table.{place_of, freed}
 use Rattle.model_teis.specs.declared.changes.Change.TheVariants.{Gained}
-use Rattle.model_teis.specs.Table.{freed}
 use Rattle.model_teis.specs.Changes.{left}
 use Rattle.model_teis.specs.terminal.Messages.{Message, IdentityRequest, IdentityCheckResponse, IdentityVerify}
 use Rattle.model_teis.specs.terminal.Numbers.{next_number}

@@ -1,6 +1,6 @@
 -- An end of a call with its clock: what is kept by an event, and by a beat.
-use Rattle.laws_time.proofs.Vocabulary.{AllByRecursion, AwaitingEstablishment, Card, Clock, Config, Established, Expiry, IsInRange, Lengths, Link, LinkEndpoint, List, None, OctetEndpoint as Endpoint, Option, Ran, Service, Some, StationStands, TimedEndpoint, answered, ap, arith, as_endpoint, happens, inl, inr, line_at, link_of, moment_of, octet_at, octet_orders, refl, subst, sym, ℕ, ◌+◌, ◌<◌}
-use Rattle.laws_time.proofs.Vocabulary.{◌∙◌, ◌≡◌, ◌≤◌, ◌⊎◌}
+use Rattle.laws_time.proofs.Vocabulary.{AllByRecursion, AwaitingEstablishment, Card, Clock, Config, Established, Expiry, IsInRange, Lengths, Link, LinkEndpoint, List, None, OctetEndpoint as Endpoint, Option, Ran, Service, Some, StationStands, TimedEndpoint, answered, ap, arith, as_endpoint, happens, inl, inr, line_at, link_of, moment_of, octet_at, octet_orders, refl, subst, sym, ℕ, ◌+◌, ◌<◌, ◌∙◌}
+use Rattle.laws_time.proofs.Vocabulary.{◌≡◌, ◌≤◌, ◌⊎◌}
 use Rattle.lapd_frame.specs.declared.timers.Timer.TheVariants as timers
 use Rattle.model_line.specs.Event as line
 use Rattle.model_card.specs.ports.Port as port
@@ -11,7 +11,6 @@ use Rattle.laws_time.proofs.OfCircuit.AckedEvents.{IsNoExpiry, t200_at, none-hap
 use Rattle.laws_time.proofs.OfCircuit.AckedOn.{Open}
 use Rattle.laws_time.proofs.OfCircuit.AckedTimers.{IsFine, Awaits}
 use Rattle.laws_time.proofs.OfCircuit.Ends.{at_time}
-use Rattle.laws_time.proofs.OfCircuit.InBeatsAs.{Alike}
 use Rattle.laws_time.proofs.OfCircuit.Orders.{AreOurs, RunsOurs, ours-obeyed}
 use Rattle.laws_time.proofs.OfCircuit.Prompt.{all-obeyed}
 
@@ -36,18 +35,6 @@ module _ (service : Service) (tei : ℕ) (c : Config) (ranged : IsInRange c) (ls
     pub n : LinkEndpoint
     pub stands : StationStands c service tei place (as_endpoint way s) n
     pub fine : IsFine (its_link s)
-
-  pub same-link : (s u : Endpoint) → Alike s u → its_link u ≡ its_link s
-  same-link s u h = λ i. link_of service tei (line_at (h.line i) (h.card i))
-
-  pub facts-as : (s u : Endpoint) → Alike s u → Facts u → Facts s
-  facts-as s u h x = record {
-    way = x.way;
-    place = x.place;
-    n = x.n;
-    stands = subst (λ y. StationStands c service tei x.place y x.n) (λ i. record { card = h.card i; line = h.line i; way = x.way; granted = h.granted i; told = h.told i }) x.stands;
-    fine = subst IsFine (same-link s u h) x.fine;
-  }
 
   abbrev IsHere : ℕ → Expiry → Type 0
   IsHere number x = x.line ≡ number

@@ -1,10 +1,10 @@
 -- After noise an end hears again what the other gave: with each octet just that.
-use Rattle.laws_time.proofs.Vocabulary.{All, All-cons, All-head, All-nil, All-tail, Bool, Item, List, Option, Port, Some, [], after_flag, ap, append_assoc, append_cancel_left, append_cancel_right, arith, bits, bits-append, cases_lt, flag, flat_map, flat_map-append, frame, frame_text, gained, heard_in, heard_until, heard_until-onto, heard_with, idle, inl, inr, item_octets, item_text}
-use Rattle.laws_time.proofs.Vocabulary.{left_of, length, length-append, length-bits, longest, longest_text, option_to_list, refl, replicate, reverse_aux, reverse_aux-append, reverse_aux-onto, room_for, slice_get, suc, sym, zero, ℕ, ◌*◌, ◌++◌, ◌+◌, ◌<◌, ◌∙◌, ◌∷◌, ◌≡◌, ◌≤◌, ◌⊎◌}
+use Rattle.laws_time.proofs.Vocabulary.{All, All-cons, All-head, All-nil, All-tail, Bool, Item, List, Option, Port, Some, [], after_flag, ap, append_assoc, append_cancel_left, arith, bits, bits-append, cases_lt, flag, flat_map, flat_map-append, frame, frame_text, gained, heard_in, heard_until, heard_until-onto, heard_with, idle, inl, inr, item_octets, item_text, left_of, length, length-append}
+use Rattle.laws_time.proofs.Vocabulary.{length-bits, longest, longest_text, option_to_list, refl, replicate, reverse_aux, reverse_aux-append, reverse_aux-onto, room_for, suc, sym, zero, ℕ, ◌*◌, ◌++◌, ◌+◌, ◌<◌, ◌∙◌, ◌∷◌, ◌≡◌, ◌≤◌, ◌⊎◌}
 use Rattle.model_bits.specs.Stream as stream
 use Rattle.model_bits.proofs.RoundTripPlaces.{hears}
 use Rattle.laws_time.proofs.OfCircuit.AnsweredBits.{longer-begins}
-use Rattle.laws_time.proofs.OfCircuit.AnsweredClear.{hears-same, bits-flags, flags-before, begins-so, gained-there}
+use Rattle.laws_time.proofs.OfCircuit.AnsweredClear.{hears-same, bits-flags, gained-there}
 use Rattle.laws_time.proofs.OfCircuit.AnsweredPlace.{Comes, all_sent}
 use Rattle.laws_time.proofs.OfCircuit.InBeatsShort.{text-longest}
 use Rattle.laws_time.proofs.OfCircuit.Sender.{Fine}
@@ -158,14 +158,3 @@ module _ (n201 m way k : ℕ) (p : Port) (value : ℕ) (more : List ℕ) (q : Po
   -- What is heard stood in what the other gave.
   pub heard-was : (e : stream.Event) → gained n201 q.received value ≡ Some e → (before : List ℕ) × (p.given ≡ before ++ value ∷ more) × (gained n201 before value ≡ Some e)
   heard-was e gains = grind (arith, gained-there, all-given, gained-as-sent)
-
-  -- And all that stood there is heard.
-  pub heard-so-too : (before : List ℕ) → p.given ≡ before ++ value ∷ more → gained n201 q.received value ≡ gained n201 before value
-  heard-so-too before is =
-      let given : (replicate way 0x7E ++ before) ++ value ∷ more ≡ (c.before ++ c.as_sent) ++ value ∷ more = grind (arith, append_assoc, replicate, all-given) in
-      let same = append_cancel_right (replicate way 0x7E ++ before) (c.before ++ c.as_sent) (value ∷ more) given in
-      let text = sym h.sound.text.text in
-      let now = before ++ value ∷ [] in
-      let first = flags-before n201 way before (begins-so n201 p.given before (value ∷ more) (left_of p) (flat_map item_text p.items) text is) in
-      let then = flags-before n201 way now (begins-so n201 p.given now more (left_of p) (flat_map item_text p.items) text (is ∙ sym (append_assoc before (value ∷ []) more))) in
-      grind (arith, gained-as-sent, gained, slice_get, heard_in, append_assoc, replicate, length)

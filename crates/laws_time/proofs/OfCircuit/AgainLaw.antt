@@ -1,5 +1,5 @@
 -- Whatever noise there was: each frame that is put on a line without noise is received so many beats later.
-use Rattle.laws_time.proofs.Vocabulary.{All, All-head, All-tail, AreShort, Beat, Begins, Clocked, Config, FramesComeAfterNoise, HasReceivedSince, IsClean, IsInRange, IsTalk, Line, List, OctetEndpoint, Option, Port, TimedEndpoint, [], after, all-left, all-right, ap, append-nil, arith, beat, begins, begun, drop, fold-append, frames_among, gone, length, length-append, length-replicate, longest}
+use Rattle.laws_time.proofs.Vocabulary.{All, All-head, All-tail, AreShort, Beat, CanCall, Clocked, Config, FramesComeAfterNoise, HasReceivedSince, IsClean, IsInRange, IsTalk, Line, List, OctetEndpoint, Option, Port, TimedEndpoint, [], after, all-left, all-right, ap, append-nil, arith, beat, begins, begun, drop, fold-append, frames_among, gone, length, length-append, length-replicate, longest}
 use Rattle.laws_time.proofs.Vocabulary.{port_of, refl, subst, sym, unwrap_or, ℕ, ◌++◌, ◌+◌, ◌∙◌, ◌∷◌, ◌≡◌, ◌≤◌}
 use Rattle.laws_time.proofs.OfCircuit.AgainRan.{EndAt, fine-at, Both, Beaten, beaten, both-all, both-begin, Grown, grown-both, grown-all, beats-then}
 use Rattle.laws_time.proofs.OfCircuit.AgainText.{all-whole, heard-since}
@@ -38,13 +38,13 @@ comes-first c d way n s r h g = record {
       );
 }
 
-module _ (l : Line) (fit : Begins l) where
+module _ (l : Line) (can : CanCall l.near l.near_line l.far l.far_line l.tei) where
   pub record Since (k : ℕ) (w : Clocked) : Type 0 where
-    pub both : Both l fit w
+    pub both : Both l can w
     pub there : Comes l.way k (port_of w.near.at) w.near.at.way (port_of w.far.at)
     pub back : Comes l.way k (port_of w.far.at) w.far.at.way (port_of w.near.at)
 
-  pub since-first : (w : Clocked) → Both l fit w → Since w.beats w
+  pub since-first : (w : Clocked) → Both l can w → Since w.beats w
   since-first w h = record {
     both = h;
     there = comes-first l.near l.far l.way w.beats w.near.at w.far.at h.near h.far;
@@ -52,7 +52,7 @@ module _ (l : Line) (fit : Begins l) where
   }
 
   -- After the pulls of a beat; and after a beat without noise.
-  module _ (k : ℕ) (w : Clocked) (b : Beat) (h : Since k w) (z : Beaten l fit w b) where
+  module _ (k : ℕ) (w : Clocked) (b : Beat) (h : Since k w) (z : Beaten l can w b) where
     pub gone-there : Comes l.way k (port_of (gone l.rate b w).near.at) (z.far.value ∷ z.far.more) (port_of (gone l.rate b w).far.at)
     gone-there =
         let v = gone l.rate b w in let u = beat l.rate w b in
@@ -78,7 +78,7 @@ module _ (l : Line) (fit : Begins l) where
   since-all k [] talk is_clean w h = h
   since-all k (b ∷ bs) talk is_clean w h =
       since-all k bs (All-tail (IsTalk l) b bs talk) (All-tail IsClean b bs is_clean) (beat l.rate w b)
-      (since-one k w b h (beaten l fit w b (All-head (IsTalk l) b bs talk) h.both) (All-head IsClean b bs is_clean))
+      (since-one k w b h (beaten l can w b (All-head (IsTalk l) b bs talk) h.both) (All-head IsClean b bs is_clean))
 
   -- From one end to the other: v is after the first beat without noise, which is beat k.
   module _ (m k n e : ℕ) (c d : Config) (ranged : IsInRange c) (size : c.n201 ≡ l.near.n201) (v w u rv ru : TimedEndpoint) (hv : EndAt c l.way (k + 1) v.at) (hw : EndAt c l.way n w.at) (hu : EndAt c l.way e u.at)
@@ -106,17 +106,17 @@ frames-come-after-noise l noisy bs more b m fit talk is_clean enough =
     let talk_clean = all-right (IsTalk l) noisy (b ∷ rest) talk in
     let s = after l.rate noisy (begins l) in
     let k = s.beats in
-    let both = both-all l fit noisy (all-left (IsTalk l) noisy (b ∷ rest) talk) (begins l) (both-begin l fit) in
-    let one = since-one l fit k s b (since-first l fit s both) (beaten l fit s b (All-head (IsTalk l) b rest talk_clean) both) (All-head IsClean b rest is_clean) in
+    let both = both-all l fit.call noisy (all-left (IsTalk l) noisy (b ∷ rest) talk) (begins l) (both-begin l fit.call) in
+    let one = since-one l fit.call k s b (since-first l fit.call s both) (beaten l fit.call s b (All-head (IsTalk l) b rest talk_clean) both) (All-head IsClean b rest is_clean) in
     let talk_rest = All-tail (IsTalk l) b rest talk_clean in
     let clean_rest = All-tail IsClean b rest is_clean in
     let v = beat l.rate s b in
     let w = after l.rate bs v in
     let u = after l.rate more w in
-    let at_w = since-all l fit k bs (all-left (IsTalk l) bs more talk_rest) (all-left IsClean bs more clean_rest) v one in
-    let at_u = since-all l fit k more (all-right (IsTalk l) bs more talk_rest) (all-right IsClean bs more clean_rest) w at_w in
-    let g = grown-all l fit bs (all-left (IsTalk l) bs more talk_rest) v one.both in
-    let f = grown-all l fit more (all-right (IsTalk l) bs more talk_rest) w at_w.both in
+    let at_w = since-all l fit.call k bs (all-left (IsTalk l) bs more talk_rest) (all-left IsClean bs more clean_rest) v one in
+    let at_u = since-all l fit.call k more (all-right (IsTalk l) bs more talk_rest) (all-right IsClean bs more clean_rest) w at_w in
+    let g = grown-all l fit.call bs (all-left (IsTalk l) bs more talk_rest) v one.both in
+    let f = grown-all l fit.call more (all-right (IsTalk l) bs more talk_rest) w at_w.both in
     let e = beats-then l.rate more w in
     let same : v ≡ begun l noisy b = sym (fold-append (beat l.rate) (begins l) noisy (b ∷ [])) in
     let long : l.way + (w.beats + longest m) ≤ u.beats = omega (arith, e, enough) in
@@ -125,8 +125,8 @@ frames-come-after-noise l noisy bs more b m fit talk is_clean enough =
     subst (λ (v : Clocked). let w = after l.rate bs v in let u = after l.rate more w in AreShort m w.near → AreShort m w.far →
     HasReceivedSince l v.near w.near v.far u.far × HasReceivedSince l v.far w.far v.near u.near) same
     (λ small small_far. (
-      since-so l fit m k w.beats u.beats l.near l.far fit.call.near.0 refl v.near w.near u.near v.far u.far one.both.near at_w.both.near at_u.both.near one.both.far at_u.both.far at_u.there x y g.near f.near
+      since-so l fit.call m k w.beats u.beats l.near l.far fit.call.near.0 refl v.near w.near u.near v.far u.far one.both.near at_w.both.near at_u.both.near one.both.far at_u.both.far at_u.there x y g.near f.near
           (more-received x y (port_of v.far.at) (port_of w.far.at) (port_of u.far.at) g.far f.far) long small,
-      since-so l fit m k w.beats u.beats l.far l.near fit.call.far.0 (sym fit.call.opposite.1) v.far w.far u.far v.near u.near one.both.far at_w.both.far at_u.both.far one.both.near at_u.both.near at_u.back x y g.far
+      since-so l fit.call m k w.beats u.beats l.far l.near fit.call.far.0 (sym fit.call.opposite.1) v.far w.far u.far v.near u.near one.both.far at_w.both.far at_u.both.far one.both.near at_u.both.near at_u.back x y g.far
           f.far (more-received x y (port_of v.near.at) (port_of w.near.at) (port_of u.near.at) g.near f.near) long small_far,
     ))

@@ -1,20 +1,36 @@
 -- Beats with any noise: each end goes on as a card on its line, and what is in transit from it is the end of what it gave.
-use Rattle.laws_time.proofs.Vocabulary.{All, All-head, All-nil, All-tail, AreOctets, AsksOctets, Assign, Beat, Begins, Carries, Clocked, Config, IsInRange, IsOfLink, IsTalk, Item, Lengths, Line, List, None, OctetEndpoint, Option, Port, Ran, Request, Service, Some, TimedEndpoint, [], after, answer, ap, append-nil, append_assoc, arith, asked-way, beat, begins, comes_to, drop, endpoint, flags}
-use Rattle.laws_time.proofs.Vocabulary.{with_first_of}
-use Rattle.laws_time.proofs.Vocabulary.{frames_among, given_in, goes-on, gone, happens, is_due, item_of, length, length-append, meant, octet_at, octet_endpoint, on-line, port-after, port_of, refl, replicate, said, sound-port, subst, suc, sym, unwrap_or, with_item, with_octet, within-ports, ℕ, ◌++◌, ◌+◌, ◌/◌, ◌<◌, ◌∙◌, ◌∷◌, ◌≡◌}
+use Rattle.laws_time.proofs.Vocabulary.{All, All-head, All-nil, All-tail, AreOctets, AsksOctets, Beat, CanCall, Carries, Clocked, Config, IsInRange, IsOfLink, IsTalk, Item, Lengths, Line, List, None, OctetEndpoint, Option, Port, Ran, Request, Service, Some, TimedEndpoint, [], after, answer, answer_of, ap, append-nil, append_assoc, arith, asked-way, beat, begins, comes_to, drop, endpoint}
+use Rattle.laws_time.proofs.Vocabulary.{frames_among, given_in, goes-on, gone, happens, is_due, item_of, length, length-append, length-replicate, meant, octet_at, octet_pulled, on-line, option_map_or, port-after, port_of, refl, replicate, said, sound-port, subst, suc, sym, unwrap_or, with_item, with_octet, within-ports, ℕ, ◌++◌, ◌+◌, ◌/◌, ◌<◌, ◌∙◌, ◌∷◌, ◌≡◌}
 use Rattle.model_line.specs.Event as line
 use Rattle.model_card.specs.ports.Port as port
 use Rattle.laws_order.specs.circuit.Circuit as circuit
 use Rattle.laws_time.proofs.OfCircuit.AnsweredBeats.{Sent, Came, Behind, pull-sends, first-of, comes-then, behind-then}
 use Rattle.laws_time.proofs.OfCircuit.AnsweredPlace.{all_sent}
 use Rattle.laws_time.proofs.OfCircuit.ArrivWay.{pulled-goes}
-use Rattle.laws_time.proofs.OfCircuit.Began.{ran-start, port-is, counts-begin}
-use Rattle.laws_time.proofs.OfCircuit.InBeatsAs.{ran-way}
-use Rattle.laws_time.proofs.OfCircuit.InBeatsKept.{IsSilent, silent-way, silent-port, of-octets}
+use Rattle.laws_time.proofs.OfCircuit.Began.{ran-begun, port-is, way-is as begun-way}
+use Rattle.laws_time.proofs.OfCircuit.Led.{ran-way}
 use Rattle.laws_time.proofs.OfCircuit.Sender.{Fine}
 use Rattle.laws_time.proofs.OfCircuit.Keeping.{comes-keep}
 
 -- ---- requests and expiries leave the port
+
+abbrev IsSilent : port.Event → Type 0
+IsSilent (port.request r) = Unit {0}
+IsSilent (port.expiry timer) = Unit {0}
+IsSilent other = ⊥
+
+none-pulled : (o : Option line.Answer) → octet_pulled (option_map_or answer_of o (port.told line.nothing)) ≡ []
+none-pulled o = grind arith
+
+silent-way : (e : port.Event) → IsSilent e → (s : OctetEndpoint) → (circuit.happens e s).way ≡ s.way
+unfolding answer
+silent-way e h1z s = grind (arith, asked-way, none-pulled, append-nil)
+
+silent-port : (e : port.Event) → IsSilent e → (s : OctetEndpoint) → s.line < length s.card.ports → port_of (circuit.happens e s) ≡ port_of s
+silent-port e h1z s h2z = grind (arith, port-after)
+
+of-octets : (service : Service) (tei : ℕ) (r : Request) → IsOfLink service tei r → AsksOctets (port.request r)
+of-octets service tei other is = grind arith
 
 module _ (service : Service) (tei : ℕ) (c : Config) (ranged : IsInRange c) where
   pub record Silent (s u : OctetEndpoint) : Type 0 where
@@ -80,28 +96,12 @@ octets-pulled c ranged s ran all =
     let there = frames_among p.items in
     let carries : Carries c.n201 p p.given [] there = record { given = refl; are = refl; octets = all } in
     subst (λ (q : Port). All AreOctets (frames_among q.items)) (sym (port-after s port.pull (within-ports c ranged s ran)))
-    (pulled-goes c ranged s ran there p.given [] carries (is_due p)).octets
+    (pulled-goes c ranged s ran there c.n201 0 p.given [] carries (is_due p)).octets
 
 pull-items : (c : Config) (ranged : IsInRange c) (s : OctetEndpoint) → Ran c s → (new : List Item) × ((port_of (circuit.happens port.pull s)).items ≡ (port_of s).items ++ new)
 pull-items c ranged s ran =
     let o = said (octet_at s.line port.pull) s.card in
     let x = item-with o (port_of s) in (x.0, ap (λ (p : Port). p.items) (port-after s port.pull (within-ports c ranged s ran)) ∙ x.1)
-
--- What a pull makes of a port, and an octet that comes, if any does.
-pub beaten-end : (c : Config) (ranged : IsInRange c) (p : Port) (s : OctetEndpoint) → Ran c s → port_of s ≡ p → (way : List ℕ) (q : Port) → q ≡ port_of (with_first_of way (circuit.happens port.pull s)) → Grown 1 p q
-beaten-end c ranged p s ran same way q is =
-    let x = circuit.happens port.pull s in
-    let g = pull-sends s s refl refl (within-ports c ranged s ran) in
-    let i = pull-items c ranged s ran in
-    let h = hear-port way x (goes-on c s port.pull tt ran) in
-    grind arith
-  where
-    hear-port : (way : List ℕ) (x : OctetEndpoint) → Ran c x → (had : List ℕ) × (port_of (with_first_of way x) ≡ record (port_of x) { received = (port_of x).received ++ had })
-    hear-port [] x ran = ([], λ i. record (port_of x) { received = sym (append-nil (port_of x).received) i })
-    hear-port (value ∷ more) x ran = (value ∷ [], port-after x (port.octet value) (within-ports c ranged x ran))
-
-pub late-port : (way : List ℕ) (y : OctetEndpoint) → port_of (with_first_of way (circuit.without_first y)) ≡ port_of (with_first_of way y)
-late-port way y = grind arith
 
 -- What a beat makes of an end: before it, after what is asked and falls due, after the pull, and after the octet that comes.
 module _ (c : Config) (ranged : IsInRange c) (service : Service) (tei way n : ℕ) (s a u other : TimedEndpoint) (noise : Option ℕ) (h : EndAt c way n s.at) (q : Silent service tei c ranged s.at a.at)
@@ -153,7 +153,7 @@ pub beats-then : (rate : ℕ) (bs : List Beat) (w : Clocked) → (after rate bs 
 beats-then rate [] w = omega arith
 beats-then rate (b ∷ bs) w = let rest = beats-then rate bs (beat rate w b) in omega (arith, rest)
 
-module _ (l : Line) (fit : Begins l) where
+module _ (l : Line) (can : CanCall l.near l.near_line l.far l.far_line l.tei) where
   pub record Both (w : Clocked) : Type 0 where
     pub near : EndAt l.near l.way w.beats w.near.at
     pub far : EndAt l.far l.way w.beats w.far.at
@@ -176,27 +176,27 @@ module _ (l : Line) (fit : Begins l) where
       let z = comes_to moment b.far_asks w.far in
       let v = gone l.rate b w in
       let u = beat l.rate w b in
-      let p = silent-comes l.service l.tei l.near fit.call.near.0 moment b.near_asks talk.0 w.near h.near.ran in
-      let q = silent-comes l.service l.tei l.far fit.call.far.0 moment b.far_asks talk.1 w.far h.far.ran in
-      let n = pull-sends w.near.at a.at p.port p.way (within-ports l.near fit.call.near.0 a.at p.ran) in
-      let f = pull-sends w.far.at z.at q.port q.way (within-ports l.far fit.call.far.0 z.at q.ran) in
+      let p = silent-comes l.service l.tei l.near can.near.0 moment b.near_asks talk.0 w.near h.near.ran in
+      let q = silent-comes l.service l.tei l.far can.far.0 moment b.far_asks talk.1 w.far h.far.ran in
+      let n = pull-sends w.near.at a.at p.port p.way (within-ports l.near can.near.0 a.at p.ran) in
+      let f = pull-sends w.far.at z.at q.port q.way (within-ports l.far can.far.0 z.at q.ran) in
       let x = first-of w.near.at.way n.value in
       let y = first-of w.far.at.way f.value in
-      let near = comes-then v.near v.far b.near_noise y.0 y.1 (f.way ∙ y.2) (within-ports l.near fit.call.near.0 v.near.at (goes-on l.near a.at port.pull tt p.ran)) in
-      let far = comes-then v.far v.near b.far_noise x.0 x.1 (n.way ∙ x.2) (within-ports l.far fit.call.far.0 v.far.at (goes-on l.far z.at port.pull tt q.ran)) in
+      let near = comes-then v.near v.far b.near_noise y.0 y.1 (f.way ∙ y.2) (within-ports l.near can.near.0 v.near.at (goes-on l.near a.at port.pull tt p.ran)) in
+      let far = comes-then v.far v.near b.far_noise x.0 x.1 (n.way ∙ x.2) (within-ports l.far can.far.0 v.far.at (goes-on l.far z.at port.pull tt q.ran)) in
       record {
         both = record {
-          near = end-then l.near fit.call.near.0 l.service l.tei l.way w.beats w.near a u.near v.far b.near_noise h.near p near;
-          far = end-then l.far fit.call.far.0 l.service l.tei l.way w.beats w.far z u.far v.near b.far_noise h.far q far;
+          near = end-then l.near can.near.0 l.service l.tei l.way w.beats w.near a u.near v.far b.near_noise h.near p near;
+          far = end-then l.far can.far.0 l.service l.tei l.way w.beats w.far z u.far v.near b.far_noise h.far q far;
         };
         near_sent = n;
         far_sent = f;
         near = near;
         far = far;
-        near_fine = its-fine l.near fit.call.near.0 l.service l.tei l.way w.beats w.near a u.near v.far b.near_noise h.near p near;
-        far_fine = its-fine l.far fit.call.far.0 l.service l.tei l.way w.beats w.far z u.far v.near b.far_noise h.far q far;
-        near_grown = grown-then l.near fit.call.near.0 l.service l.tei l.way w.beats w.near a u.near v.far b.near_noise h.near p near;
-        far_grown = grown-then l.far fit.call.far.0 l.service l.tei l.way w.beats w.far z u.far v.near b.far_noise h.far q far;
+        near_fine = its-fine l.near can.near.0 l.service l.tei l.way w.beats w.near a u.near v.far b.near_noise h.near p near;
+        far_fine = its-fine l.far can.far.0 l.service l.tei l.way w.beats w.far z u.far v.near b.far_noise h.far q far;
+        near_grown = grown-then l.near can.near.0 l.service l.tei l.way w.beats w.near a u.near v.far b.near_noise h.near p near;
+        far_grown = grown-then l.far can.far.0 l.service l.tei l.way w.beats w.far z u.far v.near b.far_noise h.far q far;
       }
 
   pub both-all : (bs : List Beat) → All (IsTalk l) bs → (w : Clocked) → Both w → Both (after l.rate bs w)
@@ -219,24 +219,18 @@ module _ (l : Line) (fit : Begins l) where
       grind (arith, port_of, grown-both)
 
   -- As it begins.
-  begins-at : (c : Config) (ranged : IsInRange c) (number : ℕ) (within : number < c.lines) (lengths : Lengths) (in_range : Rattle.lapd_clock.specs.Timer.AreInRange lengths)
-      → EndAt c l.way 0 (endpoint c number lengths l.way l.tei).at
-  begins-at c ranged number within lengths in_range =
-      let few = fit.call.terminal in
-      let start : OctetEndpoint = record (octet_endpoint c number) { way = flags l.way } in
-      let counts = counts-begin c l.service l.tei number l.way ranged within few lengths in_range l.rate in
-      let fresh = port-is c l.service l.tei number l.way ranged within few lengths in_range l.rate in
+  begins-at : (c : Config) (ranged : IsInRange c) (number : ℕ) (within : number < c.lines) (lengths : Lengths) → EndAt c l.way 0 (endpoint c number lengths l.way l.tei).at
+  begins-at c ranged number within lengths =
+      let fresh = port-is c ranged number l.tei l.way within in
+      let way = begun-way c ranged number l.tei l.way within in
       record {
-        ran = goes-on c start (port.request (Assign l.tei)) (All-nil (λ octet. octet < 256)) (ran-start c l.service l.tei number l.way ranged within few lengths in_range l.rate);
+        ran = ran-begun c ranged number l.tei l.way within;
         octets = subst (λ (p : Port). All AreOctets (frames_among p.items)) (sym fresh) (All-nil AreOctets);
-        given = counts.given;
-        received = counts.received;
-        long = counts.way;
-        behind = record { before = []; sent = ap (λ (p : Port). all_sent l.way p) fresh ∙ append-nil (replicate l.way 0x7E) ∙ sym (asked-way (Assign l.tei) start) };
+        given = ap (λ (p : Port). length p.given) fresh;
+        received = ap (λ (p : Port). length p.received) fresh;
+        long = ap length way ∙ length-replicate l.way 0x7E;
+        behind = record { before = []; sent = ap (λ (p : Port). all_sent l.way p) fresh ∙ append-nil (replicate l.way 0x7E) ∙ sym way };
       }
 
   pub both-begin : Both (begins l)
-  both-begin = record {
-    near = begins-at l.near fit.call.near.0 l.near_line fit.call.near.1 l.lengths fit.lengths.0;
-    far = begins-at l.far fit.call.far.0 l.far_line fit.call.far.1 l.far_lengths fit.lengths.1;
-  }
+  both-begin = record { near = begins-at l.near can.near.0 l.near_line can.near.1 l.lengths; far = begins-at l.far can.far.0 l.far_line can.far.1 l.far_lengths }

@@ -10,7 +10,6 @@ use Rattle.laws_time.proofs.OfCircuit.InTime.{pair-begins}
 use Rattle.laws_time.proofs.OfCircuit.Open.{ring}
 use Rattle.laws_time.specs.circuit.LongEnough.{is_of}
 use Rattle.laws_time.proofs.OfCircuit.LongEnough.{clear-parts, Pair, all-pairs, pair-then}
-use Rattle.laws_time.proofs.OfCircuit.Turned.{as_begins}
 use Rattle.laws_time.proofs.OfCircuit.AgainRan.{beats-then, Both, both-all, both-begin, beaten}
 use Rattle.laws_time.proofs.OfCircuit.AgainLaw.{since-first, since-one}
 
@@ -79,11 +78,11 @@ module _ (l : Line) (fit : IsFit l) where
   same-longest = ap (λ n. longest_text n / 8) fit.call.opposite.1
 
   -- From the clean beat before on.
-  pub first-ready : (w0 : Clocked) → Pair l fit w0 → Both l (as_begins l fit) w0 → (b : Beat) → IsTalk l b → IsClean b → AreClear l (b ∷ []) w0
+  pub first-ready : (w0 : Clocked) → Pair l fit w0 → Both l fit.call w0 → (b : Beat) → IsTalk l b → IsClean b → AreClear l (b ∷ []) w0
       → Ready l fit w0.beats (lost (beat l.rate w0 b).near.at) (lost (beat l.rate w0 b).far.at) (beat l.rate w0 b)
   unfolding AreClear
   first-ready w0 p both b talk is_clean clear =
-      let fit' = as_begins l fit in let h = since-first l fit' w0 both in
+      let fit' = fit.call in let h = since-first l fit' w0 both in
       record {
         pair = pair-then l fit w0 p b talk clear.0 clear.1;
         near_low = omega arith;
@@ -91,7 +90,7 @@ module _ (l : Line) (fit : IsFit l) where
         since = since-one l fit' w0.beats w0 b h (beaten l fit' w0 b talk both) is_clean;
       }
 
-  module _ (n : ℕ) (x : Exchange n) (w0 : Clocked) (p : Pair l fit w0) (both : Both l (as_begins l fit) w0) (b : Beat) (talk_b : IsTalk l b) (clean_b : IsClean b) where
+  module _ (n : ℕ) (x : Exchange n) (w0 : Clocked) (p : Pair l fit w0) (both : Both l fit.call w0) (b : Beat) (talk_b : IsTalk l b) (clean_b : IsClean b) where
     abbrev w : Clocked
     w = beat l.rate w0 b
 
@@ -133,7 +132,7 @@ module _ (l : Line) (n : ℕ) (x : Exchange n) (bs : List Beat) (b : Beat) (more
       let w0 = after l.rate bs (begins l) in
       let first = all-left (IsTalk l) bs (b ∷ more) talk in
       let p = all-pairs l fit bs first (begins l) parts.0 (pair-begins l fit) in
-      let both = both-all l (as_begins l fit) bs first (begins l) (both-begin l (as_begins l fit)) in
+      let both = both-all l fit.call bs first (begins l) (both-begin l fit.call) in
       let last = all-right (IsTalk l) bs (b ∷ more) talk in
       let same : after l.rate (bs ++ b ∷ []) (begins l) ≡ beat l.rate w0 b = fold-append (beat l.rate) (begins l) bs (b ∷ []) in
       subst (λ w. (state_at l w.near ≡ Some n → ⊥) → Waits l n more w → lost (after l.rate more w).near.at ≡ lost w.near.at → lost (after l.rate more w).far.at ≡ lost w.far.at

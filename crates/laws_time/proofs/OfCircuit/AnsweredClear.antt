@@ -50,7 +50,7 @@ flag-last : (n : ℕ) → flags n ++ 0x7E ∷ [] ≡ flags (suc n)
 flag-last zero = refl
 flag-last (suc n) = ap (λ os. 0x7E ∷ os) (flag-last n)
 
-part-of : (n : ℕ) (x m : List ℕ) → replicate n 0x7E ≡ x ++ m → x ≡ replicate (length x) 0x7E
+pub part-of : (n : ℕ) (x m : List ℕ) → replicate n 0x7E ≡ x ++ m → x ≡ replicate (length x) 0x7E
 part-of n [] m is = refl
 part-of zero (a ∷ x) m is = cc is
 part-of (suc n) (a ∷ x) m is = go (cc is) (part-of n x m (cc is))
@@ -59,7 +59,7 @@ part-of (suc n) (a ∷ x) m is = go (cc is) (part-of n x m (cc is))
     go same rest = λ i. sym same i ∷ rest i
 
 module _ (n201 : ℕ) where
-  flags-silent : (n : ℕ) → heard_in n201 (replicate n 0x7E) ≡ []
+  pub flags-silent : (n : ℕ) → heard_in n201 (replicate n 0x7E) ≡ []
   flags-silent zero = refl
   flags-silent (suc n) =
       frames_round_trip_lem n201 (replicate n idle) (replicate (suc n) 0x7E) 0 (omega arith) (whole-idle n201 n) (bits-flags (suc n) ∙ sym (append-nil (flag ++ flat_map item_text (replicate n idle))))

@@ -148,9 +148,6 @@ module _ (t : Terms) where
       )
 
   -- It moves no link to state 7 or 8.
-  kept-up : (state : State) (command : Bool) (control : Control) → enquires command control ≡ true → is_multiple_frame (by_frame t.reading state command control) ≡ true → is_multiple_frame state ≡ true
-  kept-up state command control is up = grind arith
-
   was-up : (f : Parts) (l : Link) → enquires f.address.command f.control ≡ true → is_multiple_frame (after t (received (frame f)) l).state ≡ true → is_multiple_frame l.state ≡ true
   was-up f l is up = grind arith
 

@@ -21,7 +21,6 @@ use Rattle.laws_time.proofs.OfCircuit.Under.{state-here}
 use Rattle.laws_time.specs.circuit.LongEnough.{is_of}
 use Rattle.laws_time.proofs.OfCircuit.AgainRan.{Beaten, beaten}
 use Rattle.laws_time.proofs.OfCircuit.AgainLaw.{Since, gone-back, gone-there, many-of, since-one}
-use Rattle.laws_time.proofs.OfCircuit.Turned.{as_begins}
 use Rattle.laws_time.proofs.OfCircuit.Ends.{at_time}
 
 -- An end as it comes to the moment of a beat, and as it is pulled.
@@ -43,7 +42,7 @@ pub record Ready (l : Line) (fit : IsFit l) (clean base other_base : ℕ) (w : C
   pub pair : Pair l fit w
   pub near_low : base ≤ lost w.near.at
   pub far_low : other_base ≤ lost w.far.at
-  pub since : Since l (as_begins l fit) clean w
+  pub since : Since l fit.call clean w
 
 module _ (l : Line) (fit : IsFit l) (n : ℕ) (x : Exchange n) (start : ℕ) where
   -- By these octets the command is given, and the answer.
@@ -85,8 +84,8 @@ module _ (l : Line) (fit : IsFit l) (n : ℕ) (x : Exchange n) (start : ℕ) whe
     abbrev pub p : Pair l fit w
     p = y.pair
 
-    abbrev pub z : Beaten l (as_begins l fit) w b
-    z = beaten l (as_begins l fit) w b talk y.since.both
+    abbrev pub z : Beaten l fit.call w b
+    z = beaten l fit.call w b talk y.since.both
 
     -- the ends after their requests and expiries, after their pulls, and after the octet that comes
     abbrev pub near1 : Ends l.near l.service l.tei 0 fit.call.near.0 n1.at
@@ -156,10 +155,10 @@ module _ (l : Line) (fit : IsFit l) (n : ℕ) (x : Exchange n) (start : ℕ) whe
 
     -- what is in transit after the pulls
     near_coming : Comes l.way clean (port_of v.near.at) (z.far.value ∷ z.far.more) (port_of v.far.at)
-    near_coming = gone-there l (as_begins l fit) clean w b y.since z
+    near_coming = gone-there l fit.call clean w b y.since z
 
     far_coming : Comes l.way clean (port_of v.far.at) (z.near.value ∷ z.near.more) (port_of v.near.at)
-    far_coming = gone-back l (as_begins l fit) clean w b y.since z
+    far_coming = gone-back l fit.call clean w b y.since z
 
     pub ready-then : Ready l fit clean base other_base u
     ready-then =
@@ -168,7 +167,7 @@ module _ (l : Line) (fit : IsFit l) (n : ℕ) (x : Exchange n) (start : ℕ) whe
           pair = pair-then l fit w p b talk near_clear far_clear;
           near_low = let f0 = few.0 in let f1 = few.1 in let f2 = few.2 in omega (arith, f0, f1, f2, low);
           far_low = let f0 = few_far.0 in let f1 = few_far.1 in let f2 = few_far.2 in omega (arith, f0, f1, f2, far_is_low);
-          since = since-one l (as_begins l fit) clean w b y.since z is_clean;
+          since = since-one l fit.call clean w b y.since z is_clean;
         }
 
     given-now : (length (port_of v.near.at).given ≡ w.beats + 1) × (length (port_of v.far.at).given ≡ w.beats + 1)

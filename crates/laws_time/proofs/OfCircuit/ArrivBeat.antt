@@ -1,19 +1,17 @@
 -- A beat of the clocked circuit is done on a wire of frames, and T200 is long enough there.
-use Rattle.laws_time.proofs.Vocabulary.{All, All-nil, Beat, Clocked, FrameEndpoint, HasNo, IsClearAt, IsFit, IsOfLink, IsTalk, Line, LineTold, LinkEndpoint, List, Request, StationStands, TimedEndpoint, Wire, [], all_due, answered_in, ap, arith, asks, beat, card_of, comes_to, drop, fold, frames_among, fresh, gone, happens, hears, is_final, length, port_of, refl, subst, sym, ℕ, ◌*◌, ◌+◌, ◌/◌}
-use Rattle.laws_time.proofs.Vocabulary.{◌≡◌, ◌≤◌}
+use Rattle.laws_time.proofs.Vocabulary.{All, All-nil, Beat, Clocked, FrameEndpoint, HasNo, IsAskedOfLink, IsClearAt, IsFit, IsOfLink, IsTalk, Line, LineTold, LinkEndpoint, List, Request, StationStands, TimedEndpoint, Wire, [], all_due, answered_in, ap, arith, asks, beat, comes_to, drop, fold, gone, happens, hears, is_final, length, port_of, refl, subst, sym, ℕ, ◌*◌, ◌+◌, ◌/◌, ◌≡◌, ◌≤◌}
 use Rattle.model_card.specs.ports.Port as port
-use Rattle.laws_time.proofs.OfCircuit.Fallen.{is_t200, is_t203, fallen}
 use Rattle.laws_time.proofs.OfCircuit.ArrivAs.{station, heard_of}
 use Rattle.laws_time.proofs.OfCircuit.ArrivFair.{IsFair}
-use Rattle.laws_time.proofs.OfCircuit.ArrivHeard.{IsKeptAt, Hears, hears-so}
+use Rattle.laws_time.proofs.OfCircuit.ArrivHeard.{Hears, hears-so}
 use Rattle.laws_time.proofs.OfCircuit.ArrivOpen.{parts, are-own, stands, has-none}
-use Rattle.laws_time.proofs.OfCircuit.ArrivPath.{Manner, Path, path-as, path-both, path-on, path-turned, MayAsk}
+use Rattle.laws_time.proofs.OfCircuit.ArrivPath.{Path, path-both, path-turned}
 use Rattle.laws_time.proofs.OfCircuit.ArrivPulls.{PulledTo, pulls-to, heard-port}
 use Rattle.laws_time.proofs.OfCircuit.ArrivSide.{Stood, After, all-comes, fair-happens}
 use Rattle.laws_time.proofs.OfCircuit.ArrivWay.{Going, going-with, before-long}
 use Rattle.laws_time.proofs.OfCircuit.Beats.{at-moment, Gone}
-use Rattle.laws_time.proofs.OfCircuit.Ends.{leads-both, at_time, time-comes}
-use Rattle.laws_time.proofs.OfCircuit.LongEnough.{Pair, long-ago, near-in-all, in-all, near-low, near-high, soon, near-comes, far-comes, near-gone, far-gone, pair-turned}
+use Rattle.laws_time.proofs.OfCircuit.Ends.{at_time}
+use Rattle.laws_time.proofs.OfCircuit.LongEnough.{Pair, long-ago, near-in-all, in-all, near-low, near-high, soon, near-gone, far-gone, pair-turned}
 use Rattle.laws_time.proofs.OfCircuit.Standing.{bare}
 use Rattle.laws_time.proofs.OfCircuit.Under.{EndOk}
 use Rattle.laws_time.proofs.OfCircuit.Turned.{fit-turned, turned_line, turned_world}
@@ -31,23 +29,17 @@ pub record Same (l : Line) (w : Clocked) (f : Wire) : Type 0 where
   pub near_heard : heard_of ts ≡ heard_of w.near.at.told
   pub far_heard : heard_of us ≡ heard_of w.far.at.told
 
--- So many frames both ends have put on their lines.
-abbrev pub put_at : Clocked → ℕ
-put_at w = length (frames_among (port_of w.near.at).items) + length (frames_among (port_of w.far.at).items)
-
 -- A beat leads there.
-pub record Led (how : Manner) (l : Line) (i j k : ℕ) (w : Clocked) (b : Beat) (x y : FrameEndpoint) : Type 0 where
+pub record Led (l : Line) (w : Clocked) (b : Beat) (x y : FrameEndpoint) : Type 0 where
   pub f : Wire
-  pub n : ℕ
-  pub path : Path how l.service l.tei i j k n (record { near = x; far = y }) f
-  pub puts : put_at (beat l.rate w b) ≡ put_at w + n
+  pub path : Path l.service l.tei (record { near = x; far = y }) f
   pub same : Same l (beat l.rate w b) f
 
 -- What may be asked for.
-abbrev pub IsBoth : Manner → Line → Request → Type 0
-IsBoth how l r = IsOfLink l.service l.tei r × MayAsk how l.service l.tei r
+abbrev pub IsBoth : Line → Request → Type 0
+IsBoth l r = IsOfLink l.service l.tei r × IsAskedOfLink l.service l.tei r
 
-module _ (how : Manner) (l : Line) (fit : IsFit l) (w : Clocked) (p : Pair l fit w) where
+module _ (l : Line) (fit : IsFit l) (w : Clocked) (p : Pair l fit w) where
   pub ago : (S m : ℕ) → S + l.lengths.t200 * l.rate ≤ (m + 1) * l.rate → m ≤ w.beats / l.rate → S + answered_in l.near l.far l.way ≤ w.beats
   ago S m = long-ago l fit l.lengths fit.t200.0 S w.beats m
 
@@ -70,13 +62,13 @@ module _ (how : Manner) (l : Line) (fit : IsFit l) (w : Clocked) (p : Pair l fit
 
     abbrev pub NearStood : ℕ → TimedEndpoint → FrameEndpoint → Type 0
     NearStood S a x =
-        Stood how l.service l.tei l.near fit.call.near.0 l.far l.lengths l.rate l.way (answered_in l.near l.far l.way) w.beats (w.beats / l.rate) ago (near-in-all l fit)
+        Stood l.service l.tei l.near fit.call.near.0 l.far l.lengths l.rate l.way (answered_in l.near l.far l.way) w.beats (w.beats / l.rate) ago (near-in-all l fit)
         p.S p.M (station back us other.at) far_end far-stands far-finals S a x
 
-    abbrev pub NearAfter : ℕ → ℕ → FrameEndpoint → TimedEndpoint → Type 0
-    NearAfter i k x v =
-        After how l.service l.tei l.near fit.call.near.0 l.far l.lengths l.rate l.way (answered_in l.near l.far l.way) w.beats (w.beats / l.rate) ago (near-in-all l fit)
-        p.S p.M (station back us other.at) far_end far-stands far-finals i k x v
+    abbrev pub NearAfter : FrameEndpoint → TimedEndpoint → Type 0
+    NearAfter x v =
+        After l.service l.tei l.near fit.call.near.0 l.far l.lengths l.rate l.way (answered_in l.near l.far l.way) w.beats (w.beats / l.rate) ago (near-in-all l fit)
+        p.S p.M (station back us other.at) far_end far-stands far-finals x v
 
     -- The near end as its moment comes.
     pub near-stood : (there : List (List ℕ)) → Going l.near.n201 (port_of w.near.at) w.near.at.way there → (ts : List LineTold) → heard_of ts ≡ heard_of w.near.at.told
@@ -94,21 +86,19 @@ module _ (how : Manner) (l : Line) (fit : IsFit l) (w : Clocked) (p : Pair l fit
       ts = ts;
       is = refl;
       heard = heard;
-      timed = leads-both (fresh l.near l.lengths) (card_of w.near) (card_of (at_time (w.beats / l.rate) w.near)) p.both.near_leads
-          (time-comes (w.beats / l.rate) w.near p.both.near (near-low l fit w p) (near-high l fit w p)).1;
     }
 
     -- Layer 3 asks, and what is due falls due.
-    pub near-came : (S : ℕ) (a : TimedEndpoint) (x : FrameEndpoint) → NearStood S a x → (rs : List Request) → All (IsBoth how l) rs → IsFair (all_due (fold asks a rs)).at.told
-        → NearAfter (fallen is_t200 (length (fold asks a rs).clock.running) (fold asks a rs)) (fallen is_t203 (length (fold asks a rs).clock.running) (fold asks a rs)) x (all_due (fold asks a rs))
+    pub near-came : (S : ℕ) (a : TimedEndpoint) (x : FrameEndpoint) → NearStood S a x → (rs : List Request) → All (IsBoth l) rs → IsFair (all_due (fold asks a rs)).at.told
+        → NearAfter x (all_due (fold asks a rs))
     near-came S a x stood rs both fair =
-        all-comes how l.service l.tei l.near fit.call.near.0 l.far l.lengths l.rate l.way (answered_in l.near l.far l.way) w.beats (w.beats / l.rate) ago (near-in-all l fit)
+        all-comes l.service l.tei l.near fit.call.near.0 l.far l.lengths l.rate l.way (answered_in l.near l.far l.way) w.beats (w.beats / l.rate) ago (near-in-all l fit)
         p.S p.M (station back us other.at) far_end far-stands far-finals rs (length (fold asks a rs).clock.running) S a x stood both fair
 
-module _ (how : Manner) (l : Line) (fit : IsFit l) (w : Clocked) (p : Pair l fit w) (b : Beat) (talk : IsTalk l b)
+module _ (l : Line) (fit : IsFit l) (w : Clocked) (p : Pair l fit w) (b : Beat) (talk : IsTalk l b)
     (back : List (List ℕ)) (comes : Going l.far.n201 (port_of w.far.at) w.far.at.way back) (us : List LineTold) (far_heard : heard_of us ≡ heard_of w.far.at.told)
-    (S : ℕ) (a : TimedEndpoint) (x : FrameEndpoint) (stood : NearStood how l fit w p w.far p.S2 p.far_ok p.far_counts.given p.far_counts.way back comes us S a x) (rs : List Request)
-    (is : comes_to (w.beats / l.rate) b.near_asks w.near ≡ all_due (fold asks a rs)) (both : All (IsBoth how l) rs) (far_both : All (IsBoth how l) b.far_asks)
+    (S : ℕ) (a : TimedEndpoint) (x : FrameEndpoint) (stood : NearStood l fit w p w.far p.S2 p.far_ok p.far_counts.given p.far_counts.way back comes us S a x) (rs : List Request)
+    (is : comes_to (w.beats / l.rate) b.near_asks w.near ≡ all_due (fold asks a rs)) (both : All (IsBoth l) rs) (far_both : All (IsBoth l) b.far_asks)
     (fair : IsFair (gone l.rate b w).near.at.told) (far_fair : IsFair (gone l.rate b w).far.at.told) where
   abbrev size : l.near.n201 ≡ l.far.n201
   size = fit.call.opposite.1
@@ -119,51 +109,36 @@ module _ (how : Manner) (l : Line) (fit : IsFit l) (w : Clocked) (p : Pair l fit
   abbrev far_gone : TimedEndpoint
   far_gone = comes_to (w.beats / l.rate) b.far_asks w.far
 
-  abbrev pub t200s : ℕ
-  t200s = fallen is_t200 (length (fold asks a rs).clock.running) (fold asks a rs)
-
-  abbrev pub t203s : ℕ
-  t203s = fallen is_t203 (length (fold asks a rs).clock.running) (fold asks a rs)
-
-  g : NearAfter how l fit w p w.far p.S2 p.far_ok p.far_counts.given p.far_counts.way back comes us t200s t203s x (comes_to (w.beats / l.rate) b.near_asks w.near)
+  g : NearAfter l fit w p w.far p.S2 p.far_ok p.far_counts.given p.far_counts.way back comes us x (comes_to (w.beats / l.rate) b.near_asks w.near)
   g =
-      subst (NearAfter how l fit w p w.far p.S2 p.far_ok p.far_counts.given p.far_counts.way back comes us t200s t203s x) (sym is)
-      (near-came how l fit w p w.far p.S2 p.far_ok p.far_counts.given p.far_counts.way back comes us S a x stood rs both
+      subst (NearAfter l fit w p w.far p.S2 p.far_ok p.far_counts.given p.far_counts.way back comes us x) (sym is)
+      (near-came l fit w p w.far p.S2 p.far_ok p.far_counts.given p.far_counts.way back comes us S a x stood rs both
       (subst (λ (v : TimedEndpoint). IsFair v.at.told) is (fair-happens port.pull near_gone fair)))
 
   abbrev near_now : FrameEndpoint
   near_now = station g.stood.there g.stood.ts (comes_to (w.beats / l.rate) b.near_asks w.near).at
 
-  abbrev far_asked : TimedEndpoint
-  far_asked = fold asks (at_time (w.beats / l.rate) w.far) b.far_asks
-
-  abbrev pub far_t200s : ℕ
-  far_t200s = fallen is_t200 (length far_asked.clock.running) far_asked
-
-  abbrev pub far_t203s : ℕ
-  far_t203s = fallen is_t203 (length far_asked.clock.running) far_asked
-
   -- The far end, as the near end has come.
-  k : NearAfter how (turned_line l) (fit-turned l fit) (turned_world w) (pair-turned l fit w p) near_gone g.S g.stood.ok g.stood.given g.stood.way g.stood.there g.stood.goes g.stood.ts
-      far_t200s far_t203s (station back us w.far.at) (comes_to (w.beats / l.rate) b.far_asks w.far)
+  k : NearAfter (turned_line l) (fit-turned l fit) (turned_world w) (pair-turned l fit w p) near_gone g.S g.stood.ok g.stood.given g.stood.way g.stood.there g.stood.goes g.stood.ts
+      (station back us w.far.at) (comes_to (w.beats / l.rate) b.far_asks w.far)
   k =
-      near-came how (turned_line l) (fit-turned l fit) (turned_world w) (pair-turned l fit w p) near_gone g.S g.stood.ok g.stood.given g.stood.way g.stood.there g.stood.goes g.stood.ts
+      near-came (turned_line l) (fit-turned l fit) (turned_world w) (pair-turned l fit w p) near_gone g.S g.stood.ok g.stood.given g.stood.way g.stood.there g.stood.goes g.stood.ts
       p.S2 (at_time (w.beats / l.rate) w.far) (station back us w.far.at)
-      (near-stood how (turned_line l) (fit-turned l fit) (turned_world w) (pair-turned l fit w p) near_gone g.S g.stood.ok g.stood.given g.stood.way g.stood.there g.stood.goes g.stood.ts back comes us far_heard)
+      (near-stood (turned_line l) (fit-turned l fit) (turned_world w) (pair-turned l fit w p) near_gone g.S g.stood.ok g.stood.given g.stood.way g.stood.there g.stood.goes g.stood.ts back comes us far_heard)
       b.far_asks far_both (fair-happens port.pull far_gone far_fair)
 
   -- Both are pulled.
   abbrev far_now : FrameEndpoint
   far_now = station k.stood.there k.stood.ts (comes_to (w.beats / l.rate) b.far_asks w.far).at
 
-  np : PulledTo how l.service l.tei l.near fit.call.near.0 near_gone g.stood.ok.but.ends.ran g.stood.there g.stood.goes g.stood.ts g.stood.heard far_now
-  np = pulls-to how l.service l.tei l.near fit.call.near.0 near_gone g.stood.ok.but.ends.ran g.stood.there g.stood.goes g.stood.ts g.stood.heard far_now
+  np : PulledTo l.service l.tei l.near fit.call.near.0 near_gone g.stood.ok.but.ends.ran g.stood.there g.stood.goes g.stood.ts g.stood.heard far_now
+  np = pulls-to l.service l.tei l.near fit.call.near.0 near_gone g.stood.ok.but.ends.ran g.stood.there g.stood.goes g.stood.ts g.stood.heard far_now
 
   abbrev near_pulled : FrameEndpoint
   near_pulled = station np.there' np.ts' (happens port.pull near_gone).at
 
-  kp : PulledTo how l.service l.tei l.far fit.call.far.0 far_gone k.stood.ok.but.ends.ran k.stood.there k.stood.goes k.stood.ts k.stood.heard near_pulled
-  kp = pulls-to how l.service l.tei l.far fit.call.far.0 far_gone k.stood.ok.but.ends.ran k.stood.there k.stood.goes k.stood.ts k.stood.heard near_pulled
+  kp : PulledTo l.service l.tei l.far fit.call.far.0 far_gone k.stood.ok.but.ends.ran k.stood.there k.stood.goes k.stood.ts k.stood.heard near_pulled
+  kp = pulls-to l.service l.tei l.far fit.call.far.0 far_gone k.stood.ok.but.ends.ran k.stood.there k.stood.goes k.stood.ts k.stood.heard near_pulled
 
   abbrev far_pulled : FrameEndpoint
   far_pulled = station kp.there' kp.ts' (happens port.pull far_gone).at
@@ -174,29 +149,26 @@ module _ (how : Manner) (l : Line) (fit : IsFit l) (w : Clocked) (p : Pair l fit
   abbrev first_far : FrameEndpoint
   first_far = station back us w.far.at
 
-  near-came-path : Path how l.service l.tei t200s 0 t203s 0 (both_now x first_far) (both_now near_now first_far)
-  near-came-path = subst (λ z. Path how l.service l.tei t200s 0 t203s 0 (both_now x first_far) (both_now z first_far)) g.stood.is g.path
+  near-came-path : Path l.service l.tei (both_now x first_far) (both_now near_now first_far)
+  near-came-path = subst (λ z. Path l.service l.tei (both_now x first_far) (both_now z first_far)) g.stood.is g.path
 
-  far-came-path : Path how l.service l.tei 0 far_t200s far_t203s 0 (both_now near_now first_far) (both_now near_now far_now)
+  far-came-path : Path l.service l.tei (both_now near_now first_far) (both_now near_now far_now)
   far-came-path =
-      path-turned how l.service l.tei (both_now first_far near_now) (both_now far_now near_now)
-      (subst (λ z. Path how l.service l.tei far_t200s 0 far_t203s 0 (both_now first_far near_now) (both_now z near_now)) k.stood.is k.path)
+      path-turned l.service l.tei (both_now first_far near_now) (both_now far_now near_now)
+      (subst (λ z. Path l.service l.tei (both_now first_far near_now) (both_now z near_now)) k.stood.is k.path)
 
-  pulled-path : Path how l.service l.tei 0 0 0 (np.n + kp.n) (both_now near_now far_now) (both_now near_pulled far_pulled)
+  pulled-path : Path l.service l.tei (both_now near_now far_now) (both_now near_pulled far_pulled)
   pulled-path =
-      path-both how l.service l.tei (both_now near_now far_now) (both_now near_pulled far_now) (both_now near_pulled far_pulled) np.path
-      (path-turned how l.service l.tei (both_now far_now near_pulled) (both_now far_pulled near_pulled) kp.path)
+      path-both l.service l.tei (both_now near_now far_now) (both_now near_pulled far_now) (both_now near_pulled far_pulled) np.path
+      (path-turned l.service l.tei (both_now far_now near_pulled) (both_now far_pulled near_pulled) kp.path)
 
-  to-pulled : Path how l.service l.tei t200s far_t200s (t203s + far_t203s) (np.n + kp.n) (both_now x first_far) (both_now near_pulled far_pulled)
+  to-pulled : Path l.service l.tei (both_now x first_far) (both_now near_pulled far_pulled)
   to-pulled =
-      path-as how l.service l.tei ((t200s + 0) + 0) ((0 + far_t200s) + 0) ((t203s + far_t203s) + 0) ((0 + 0) + (np.n + kp.n)) t200s far_t200s (t203s + far_t203s) (np.n + kp.n)
-      (both_now x first_far) (both_now near_pulled far_pulled) (omega arith) (omega arith) (omega arith) (omega arith)
-      (path-both how l.service l.tei (both_now x first_far) (both_now near_now far_now) (both_now near_pulled far_pulled)
-      (path-both how l.service l.tei (both_now x first_far) (both_now near_now first_far) (both_now near_now far_now) near-came-path far-came-path) pulled-path)
+      path-both l.service l.tei (both_now x first_far) (both_now near_now far_now) (both_now near_pulled far_pulled)
+      (path-both l.service l.tei (both_now x first_far) (both_now near_now first_far) (both_now near_now far_now) near-came-path far-came-path) pulled-path
 
   -- Both hear.
-  module _ (clear_near : IsClearAt l.near.n201 b.near_noise (gone l.rate b w).near (gone l.rate b w).far) (clear_far : IsClearAt l.near.n201 b.far_noise (gone l.rate b w).far (gone l.rate b w).near)
-      (kept_near : IsKeptAt how l.near.n201 b.near_noise (gone l.rate b w).near (gone l.rate b w).far.at) (kept_far : IsKeptAt how l.near.n201 b.far_noise (gone l.rate b w).far (gone l.rate b w).near.at) where
+  module _ (clear_near : IsClearAt l.near.n201 b.near_noise (gone l.rate b w).near (gone l.rate b w).far) (clear_far : IsClearAt l.near.n201 b.far_noise (gone l.rate b w).far (gone l.rate b w).near) where
     abbrev vn : TimedEndpoint
     vn = (gone l.rate b w).near
 
@@ -209,10 +181,10 @@ module _ (how : Manner) (l : Line) (fit : IsFit l) (w : Clocked) (p : Pair l fit
     far_has : Gone l.service l.tei l.way l.far_lengths l.rate l.far fit.call.far.0 (w.beats / l.rate) w.beats p.S2 p.M2 (gone l.rate b w).far
     far_has = far-gone l fit w p b talk
 
-    nh : Hears how l.service l.tei l.near l.far fit.call.far.0 (sym size) vn near_has.ok.but.ends.stands.config np.there' np.ts' np.heard' vf.at far_has.ok.but.ends.ran far_pulled kp.there' b.near_noise vf.at.way
+    nh : Hears l.service l.tei l.near l.far fit.call.far.0 (sym size) vn near_has.ok.but.ends.stands.config np.there' np.ts' np.heard' vf.at far_has.ok.but.ends.ran far_pulled kp.there' b.near_noise vf.at.way
     nh =
-        hears-so how l.service l.tei l.near l.far fit.call.far.0 (sym size) vn near_has.ok.but.ends.stands.config np.there' np.ts' np.heard' vf.at far_has.ok.but.ends.ran far_pulled kp.there' b.near_noise vf.at.way l.way far_has.way
-        (subst (λ n. Going n (port_of vf.at) vf.at.way kp.there') (sym size) kp.goes') clear_near kept_near
+        hears-so l.service l.tei l.near l.far fit.call.far.0 (sym size) vn near_has.ok.but.ends.stands.config np.there' np.ts' np.heard' vf.at far_has.ok.but.ends.ran far_pulled kp.there' b.near_noise vf.at.way l.way far_has.way
+        (subst (λ n. Going n (port_of vf.at) vf.at.way kp.there') (sym size) kp.goes') clear_near
 
     abbrev near_heard : TimedEndpoint
     near_heard = hears b.near_noise vf.at.way vn
@@ -220,11 +192,10 @@ module _ (how : Manner) (l : Line) (fit : IsFit l) (w : Clocked) (p : Pair l fit
     abbrev near_told : FrameEndpoint
     near_told = station np.there' nh.ts' near_heard.at
 
-    fh : Hears how l.service l.tei l.far l.near fit.call.near.0 size vf far_has.ok.but.ends.stands.config nh.left kp.ts' kp.heard' vn.at near_has.ok.but.ends.ran near_told np.there' b.far_noise vn.at.way
+    fh : Hears l.service l.tei l.far l.near fit.call.near.0 size vf far_has.ok.but.ends.stands.config nh.left kp.ts' kp.heard' vn.at near_has.ok.but.ends.ran near_told np.there' b.far_noise vn.at.way
     fh =
-        hears-so how l.service l.tei l.far l.near fit.call.near.0 size vf far_has.ok.but.ends.stands.config nh.left kp.ts' kp.heard' vn.at near_has.ok.but.ends.ran near_told np.there' b.far_noise vn.at.way l.way near_has.way
+        hears-so l.service l.tei l.far l.near fit.call.near.0 size vf far_has.ok.but.ends.stands.config nh.left kp.ts' kp.heard' vn.at near_has.ok.but.ends.ran near_told np.there' b.far_noise vn.at.way l.way near_has.way
         (subst (λ n. Going n (port_of vn.at) vn.at.way np.there') size np.goes') (subst (λ n. IsClearAt n b.far_noise vf vn) size clear_far)
-        (subst (λ n. IsKeptAt how n b.far_noise vf vn.at) size kept_far)
 
     abbrev far_heard_now : TimedEndpoint
     far_heard_now = hears b.far_noise vn.at.way vf
@@ -241,11 +212,11 @@ module _ (how : Manner) (l : Line) (fit : IsFit l) (w : Clocked) (p : Pair l fit
     far-port : SamePort vf far_heard_now
     far-port = heard-port l.far fit.call.far.0 vf far_has.ok.but.ends.ran b.far_noise vn.at.way
 
-    beat-path : Path how l.service l.tei t200s far_t200s (t203s + far_t203s) (np.n + kp.n) (both_now x (station back us w.far.at)) last
+    beat-path : Path l.service l.tei (both_now x (station back us w.far.at)) last
     beat-path =
-        path-on how l.service l.tei (both_now x (station back us w.far.at)) (both_now near_pulled far_pulled) last to-pulled
-        (path-both how l.service l.tei (both_now near_pulled far_pulled) (both_now near_told (station nh.left kp.ts' vf.at)) last nh.path
-        (path-turned how l.service l.tei (both_now (station nh.left kp.ts' vf.at) near_told) (both_now (station nh.left fh.ts' far_heard_now.at) (station fh.left nh.ts' near_heard.at)) fh.path))
+        path-both l.service l.tei (both_now x (station back us w.far.at)) (both_now near_pulled far_pulled) last to-pulled
+        (path-both l.service l.tei (both_now near_pulled far_pulled) (both_now near_told (station nh.left kp.ts' vf.at)) last nh.path
+        (path-turned l.service l.tei (both_now (station nh.left kp.ts' vf.at) near_told) (both_now (station nh.left fh.ts' far_heard_now.at) (station fh.left nh.ts' near_heard.at)) fh.path))
 
     beat-same : Same l (beat l.rate w b) last
     beat-same = record {
@@ -265,14 +236,5 @@ module _ (how : Manner) (l : Line) (fit : IsFit l) (w : Clocked) (p : Pair l fit
       far_heard = fh.heard';
     }
 
-    near_same : port_of near_gone.at ≡ port_of w.near.at
-    near_same = (near-comes l fit w p b talk (length (fold asks (at_time (w.beats / l.rate) w.near) b.near_asks).clock.running)).port
-
-    far_same : port_of far_gone.at ≡ port_of w.far.at
-    far_same = (far-comes l fit w p b talk (length (fold asks (at_time (w.beats / l.rate) w.far) b.far_asks).clock.running)).port
-
-    beat-puts : put_at (beat l.rate w b) ≡ put_at w + (np.n + kp.n)
-    beat-puts = grind (arith, length, frames_among, near-port, np, near_same, far-port, kp, far_same)
-
-    pub beat-on : Led how l t200s far_t200s (t203s + far_t203s) w b x (station back us w.far.at)
-    beat-on = record { f = last; n = np.n + kp.n; path = beat-path; same = beat-same; puts = beat-puts }
+    pub beat-on : Led l w b x (station back us w.far.at)
+    beat-on = record { f = last; path = beat-path; same = beat-same }

@@ -1,34 +1,28 @@
 -- The circuit begins as a call on a wire, as soon as it is asked for.
-use Rattle.laws_time.proofs.Vocabulary.{All, All-head, All-nil, All-tail, AreAsked, AreClear, AreInRange, Assign, Beat, Clocked, Config, Establish, FrameEndpoint, IsClearAt, IsFit, IsIdle as AsksNothing, IsInRange, IsOfLink, IsTalk, Lengths}
-use Rattle.laws_time.proofs.Vocabulary.{Line, List, Request, Service, TimedEndpoint, [], after, ap, asked, asked-as, asked-way, beat, begins, calls, comes_to, drop, endpoint, flags, fold-append, arith}
-use Rattle.laws_time.proofs.Vocabulary.{gone, hears, length, obeyed, octet_endpoint, port_of, stopped, subst, sym, ℕ, ◌++◌, ◌/◌, ◌<◌, ◌∷◌, ◌≡◌, ◌≤◌}
+use Rattle.laws_time.proofs.Vocabulary.{All, All-head, All-nil, All-tail, AreAsked, AreClear, Beat, Clocked, Config, Establish, FrameEndpoint, IsClearAt, IsFit, IsIdle as AsksNothing, IsInRange, IsOfLink, IsTalk, Lengths, Line, List, Request, TimedEndpoint, [], after, ap, asked, beat, begins, calls, comes_to, drop, endpoint, flags, fold-append, gone, hears, length, obeyed, port_of, stopped, subst}
+use Rattle.laws_time.proofs.Vocabulary.{sym, ℕ, ◌++◌, ◌/◌, ◌<◌, ◌∷◌, ◌≡◌}
 use Rattle.model_line.specs.Event as line
 use Rattle.laws_wire.specs.Call as call
 use Rattle.laws_wire.specs.Wire as wire
 use Rattle.laws_time.proofs.OfCircuit.ArrivAs.{station, heard_of}
-use Rattle.laws_time.proofs.OfCircuit.ArrivPath.{Manner}
 use Rattle.laws_time.proofs.OfCircuit.ArrivPulls.{heard-port}
 use Rattle.laws_time.proofs.OfCircuit.ArrivIdle.{IsIdle, comes-none, idle-at, pulls-idle, hears-idle}
-use Rattle.laws_time.proofs.OfCircuit.ArrivRun.{Reached, ReachedSome, AreAskedSo, AreKept, call-kept, IsFairBoth, first-going, reached-by-from}
+use Rattle.laws_time.proofs.OfCircuit.ArrivRun.{Reached, IsFairBoth, first-going, reached-by-from}
 use Rattle.laws_time.proofs.OfCircuit.ArrivWay.{Going, going-with}
-use Rattle.laws_time.proofs.OfCircuit.Began.{port-is, none-ordered}
+use Rattle.laws_time.proofs.OfCircuit.Began.{port-is, way-is, station-is, none-ordered}
 use Rattle.laws_time.proofs.OfCircuit.InTime.{pair-begins}
 use Rattle.laws_time.proofs.OfCircuit.LongEnough.{pair-then, near-comes, near-gone, far-gone, clear-parts, Pair, pair-turned}
 use Rattle.laws_time.proofs.OfCircuit.Turned.{fit-turned, turned_beat, turned_line, turned_world}
 
-assigned-as : (c : Config) (number way tei : ℕ) (lengths : Lengths) → let s = endpoint c number lengths way tei in station [] s.at.told s.at ≡ call.assigned c number tei
-assigned-as c number way tei lengths = asked-as (Assign tei) (record (octet_endpoint c number) { way = flags way }) []
-
-idle-first : (c : Config) (service : Service) (tei number way : ℕ) (ranged : IsInRange c) (within : number < c.lines) (few : tei ≤ 126) (lengths : Lengths) (in_range : AreInRange lengths) (rate : ℕ)
-    → IsIdle c number tei (endpoint c number lengths way tei)
-idle-first c service tei number way ranged within few lengths in_range rate =
+idle-first : (c : Config) (tei number way : ℕ) (ranged : IsInRange c) (within : number < c.lines) (lengths : Lengths) → IsIdle c number tei (endpoint c number lengths way tei)
+idle-first c tei number way ranged within lengths =
     let s = endpoint c number lengths way tei in
-    let same = assigned-as c number way tei lengths in
+    let same = station-is c ranged number tei way within in
     let told = ap (λ (x : FrameEndpoint). x.told) same in
     record {
       same = subst (λ ts. station [] ts s.at ≡ call.assigned c number tei) told same;
       heard = ap heard_of (sym told);
-      none_run = ap (λ os. (obeyed number os (stopped lengths)).running) (none-ordered c service tei number way ranged within few lengths in_range rate);
+      none_run = ap (λ os. (obeyed number os (stopped lengths)).running) (none-ordered c ranged number tei way within);
     }
 
 module _ (l : Line) (fit : IsFit l) where
@@ -43,14 +37,14 @@ module _ (l : Line) (fit : IsFit l) where
   pub idle-begins : IdleNow (begins l)
   idle-begins = record {
     pair = pair-begins l fit;
-    near = idle-first l.near l.service l.tei l.near_line l.way fit.call.near.0 fit.call.near.1 fit.call.terminal l.lengths fit.lengths.0 l.rate;
-    far = idle-first l.far l.service l.tei l.far_line l.way fit.call.far.0 fit.call.far.1 fit.call.terminal l.far_lengths fit.lengths.1 l.rate;
+    near = idle-first l.near l.tei l.near_line l.way fit.call.near.0 fit.call.near.1 l.lengths;
+    far = idle-first l.far l.tei l.far_line l.way fit.call.far.0 fit.call.far.1 l.far_lengths;
     goes = first-going l.near.n201 (port_of (endpoint l.near l.near_line l.lengths l.way l.tei).at) (endpoint l.near l.near_line l.lengths l.way l.tei).at.way (flags l.way)
-        (port-is l.near l.service l.tei l.near_line l.way fit.call.near.0 fit.call.near.1 fit.call.terminal l.lengths fit.lengths.0 l.rate)
-        (asked-way (Assign l.tei) (record (octet_endpoint l.near l.near_line) { way = flags l.way }));
+        (port-is l.near fit.call.near.0 l.near_line l.tei l.way fit.call.near.1)
+        (way-is l.near fit.call.near.0 l.near_line l.tei l.way fit.call.near.1);
     comes = first-going l.far.n201 (port_of (endpoint l.far l.far_line l.far_lengths l.way l.tei).at) (endpoint l.far l.far_line l.far_lengths l.way l.tei).at.way (flags l.way)
-        (port-is l.far l.service l.tei l.far_line l.way fit.call.far.0 fit.call.far.1 fit.call.terminal l.far_lengths fit.lengths.1 l.rate)
-        (asked-way (Assign l.tei) (record (octet_endpoint l.far l.far_line) { way = flags l.way }));
+        (port-is l.far fit.call.far.0 l.far_line l.tei l.way fit.call.far.1)
+        (way-is l.far fit.call.far.0 l.far_line l.tei l.way fit.call.far.1);
   }
 
   none-asked : (rs : List Request) → rs ≡ [] → All (IsOfLink l.service l.tei) rs
@@ -103,21 +97,16 @@ module _ (l : Line) (fit : IsFit l) where
   all-idle (b ∷ before) all w h clear =
       all-idle before (All-tail AsksNothing b before all) (beat l.rate w b) (idle-beat w h b (All-head AsksNothing b before all) clear.0 clear.1) clear.2
 
-  pub reached-by : (how : Manner) (before : List Beat) (b : Beat) (bs : List Beat) → All AsksNothing before → AreAskedSo how l b → All (AreAskedSo how l) bs → AreClear l (before ++ calls l b ∷ bs) (begins l)
-      → AreKept how l (calls l b ∷ bs) (after l.rate before (begins l)) → IsFairBoth (after l.rate (before ++ calls l b ∷ bs) (begins l))
-      → ReachedSome how l fit (call.calling l.service l.tei l.near l.near_line l.far l.far_line) (after l.rate (before ++ calls l b ∷ bs) (begins l))
-  reached-by how before b bs nothing are_asked all clear kept fair =
+  pub reached : (before : List Beat) (b : Beat) (bs : List Beat) → All AsksNothing before → AreAsked l b → All (AreAsked l) bs → AreClear l (before ++ calls l b ∷ bs) (begins l)
+      → IsFairBoth (after l.rate (before ++ calls l b ∷ bs) (begins l))
+      → Reached l fit (call.calling l.service l.tei l.near l.near_line l.far l.far_line) (after l.rate (before ++ calls l b ∷ bs) (begins l))
+  reached before b bs nothing are_asked all clear fair =
       let v = after l.rate before (begins l) in
       let parts = clear-parts l before (calls l b ∷ bs) (begins l) clear in
       let h = all-idle before nothing (begins l) (idle-begins l fit) parts.0 in
       let both : after l.rate (before ++ calls l b ∷ bs) (begins l) ≡ after l.rate (calls l b ∷ bs) v = fold-append (beat l.rate) (begins l) before (calls l b ∷ bs) in
-      subst (ReachedSome how l fit (call.calling l.service l.tei l.near l.near_line l.far l.far_line)) (sym both)
-      (subst (λ w. ReachedSome how l fit w (after l.rate (calls l b ∷ bs) v))
+      subst (Reached l fit (call.calling l.service l.tei l.near l.near_line l.far l.far_line)) (sym both)
+      (subst (λ w. Reached l fit w (after l.rate (calls l b ∷ bs) v))
       (λ i. record { near = wire.happens (line.request (Establish l.service l.tei)) (h.near.same i); far = h.far.same i })
-      (reached-by-from how l fit v h.pair h.goes h.comes (call.assigned l.near l.near_line l.tei).told (call.assigned l.far l.far_line l.tei).told h.near.heard h.far.heard b are_asked bs all parts.1
-      kept (subst IsFairBoth both fair)))
-
-  pub reached : (before : List Beat) (b : Beat) (bs : List Beat) → All AsksNothing before → AreAsked l b → All (AreAsked l) bs → AreClear l (before ++ calls l b ∷ bs) (begins l)
-      → IsFairBoth (after l.rate (before ++ calls l b ∷ bs) (begins l))
-      → Reached l fit (call.calling l.service l.tei l.near l.near_line l.far l.far_line) (after l.rate (before ++ calls l b ∷ bs) (begins l))
-  reached before b bs nothing are_asked all clear fair = grind (arith, reached-by, call-kept, calls, after, begins)
+      (reached-by-from l fit v h.pair h.goes h.comes (call.assigned l.near l.near_line l.tei).told (call.assigned l.far l.far_line l.tei).told h.near.heard h.far.heard b are_asked bs all parts.1
+      (subst IsFairBoth both fair)))

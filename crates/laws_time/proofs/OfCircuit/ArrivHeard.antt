@@ -1,25 +1,15 @@
 -- An octet of the other end comes, or noise in its place: at the stations a frame comes, or is lost, or nothing happens.
-use Rattle.laws_time.proofs.Vocabulary.{Config, FrameEndpoint, IsFrame, IsInRange, LineTold, List, None, OctetEndpoint, Option, Ran, Service, Some, TimedEndpoint, Wire, [], ap, arith, came, drop, gained, hears, inl, inr, length, loses, port_of, receives, refl, subst, turned, unwrap_or, ℕ, ◌++◌, ◌+◌, ◌∙◌, ◌∷◌, ◌≡◌, ◌⊎◌}
+use Rattle.laws_time.proofs.Vocabulary.{Config, FrameEndpoint, IsFrame, IsInRange, LineTold, List, None, OctetEndpoint, Option, Ran, Service, Some, TimedEndpoint, Wire, [], ap, arith, came, drop, gained, hears, inl, inr, length, loses, port_of, receives, refl, turned, unwrap_or, ℕ, ◌++◌, ◌+◌, ◌∙◌, ◌∷◌, ◌≡◌}
 use Rattle.model_bits.specs.Stream as stream
 use Rattle.model_line.specs.Event as line
 use Rattle.model_card.specs.ports.Port as port
 use Rattle.laws_wire.specs.Wire as wire
 use Rattle.laws_order.specs.circuit.Circuit as circuit
 use Rattle.laws_time.proofs.OfCircuit.ArrivAs.{station, heard_of, Becomes, none-becomes, frame-becomes, dropped-becomes}
-use Rattle.laws_time.proofs.OfCircuit.ArrivPath.{Manner, MayLose, Path, path-none, path-one, path-turned}
-use Rattle.laws_time.proofs.OfCircuit.ArrivWay.{Going, IsNoFrame, Comes, Loses, comes}
+use Rattle.laws_time.proofs.OfCircuit.ArrivPath.{Path, path-none, path-one, path-turned}
+use Rattle.laws_time.proofs.OfCircuit.ArrivWay.{Going, IsNoFrame, Comes, comes}
 
--- What is heard with an octet is what the other end gave.
-abbrev pub IsExactAt : ℕ → Option ℕ → TimedEndpoint → OctetEndpoint → Type 0
-IsExactAt n201 noise s other =
-    (value : ℕ) (more before : List ℕ) → other.way ≡ value ∷ more → (port_of other).given ≡ before ++ value ∷ more →
-    gained n201 (port_of s.at).received (unwrap_or noise value) ≡ gained n201 before value
-
--- So no frame is lost, if none may be.
-abbrev pub IsKeptAt : Manner → ℕ → Option ℕ → TimedEndpoint → OctetEndpoint → Type 0
-IsKeptAt how n201 noise s other = MayLose how ⊎ IsExactAt n201 noise s other
-
-module _ (how : Manner) (service : Service) (tei : ℕ) (c d : Config) (ranged_far : IsInRange d) (size : d.n201 ≡ c.n201) (a : TimedEndpoint) (config : a.at.card.card.config ≡ c)
+module _ (service : Service) (tei : ℕ) (c d : Config) (ranged_far : IsInRange d) (size : d.n201 ≡ c.n201) (a : TimedEndpoint) (config : a.at.card.card.config ≡ c)
     (there : List (List ℕ)) (ts : List LineTold) (heard : heard_of ts ≡ heard_of a.at.told)
     (other : OctetEndpoint) (ran : Ran d other) (y : FrameEndpoint) (back : List (List ℕ)) (noise : Option ℕ) where
   abbrev before : Wire
@@ -31,12 +21,11 @@ module _ (how : Manner) (service : Service) (tei : ℕ) (c d : Config) (ranged_f
     pub goes : Going c.n201 (port_of other) (drop 1 way) left
     pub ts' : List LineTold
     pub heard' : heard_of ts' ≡ heard_of (hears noise way a).at.told
-    pub path : Path how service tei 0 0 0 0 (record { near = station there ts a.at; far = record y { way = back } }) (record { near = station there ts' (hears noise way a).at; far = record y { way = left } })
+    pub path : Path service tei (record { near = station there ts a.at; far = record y { way = back } }) (record { near = station there ts' (hears noise way a).at; far = record y { way = left } })
 
   module _ (value : ℕ) (more : List ℕ) (goes : Going c.n201 (port_of other) (value ∷ more) back)
       (clear : (e : stream.Event) → gained c.n201 (port_of a.at).received (unwrap_or noise value) ≡ Some e → IsFrame e
-      → (before : List ℕ) × ((port_of other).given ≡ before ++ value ∷ more) × (gained c.n201 before value ≡ Some e))
-      (kept : MayLose how ⊎ ((before : List ℕ) → (port_of other).given ≡ before ++ value ∷ more → gained c.n201 (port_of a.at).received (unwrap_or noise value) ≡ gained c.n201 before value)) where
+      → (before : List ℕ) × ((port_of other).given ≡ before ++ value ∷ more) × (gained c.n201 before value ≡ Some e)) where
     abbrev o : Option stream.Event
     o = gained c.n201 (port_of a.at).received (unwrap_or noise value)
 
@@ -59,9 +48,6 @@ module _ (how : Manner) (service : Service) (tei : ℕ) (c d : Config) (ranged_f
     abbrev with : FrameEndpoint → List (List ℕ) → Wire
     with x way = record { near = x; far = record y { way = way } }
 
-    abbrev Lost : Type 0
-    Lost = Loses c.n201 d ranged_far size other ran back value more goes (gained c.n201 (port_of a.at).received (unwrap_or noise value)) clear
-
     pub hears-one : Hears (value ∷ more)
     hears-one = go (comes c.n201 d ranged_far size other ran back value more goes (gained c.n201 (port_of a.at).received (unwrap_or noise value)) clear)
       where
@@ -74,14 +60,10 @@ module _ (how : Manner) (service : Service) (tei : ℕ) (c d : Config) (ranged_f
         no-frame (Some (stream.frame octets)) none e is so = none
         no-frame (Some (stream.overlong head)) none e is so = none
 
-        may : Lost → MayLose how ⊎ ((before : List ℕ) → (port_of other).given ≡ before ++ value ∷ more → gained c.n201 (port_of a.at).received (unwrap_or noise value) ≡ gained c.n201 before value) → MayLose how
-        may x (inl y) = y
-        may x (inr exact) = absurd (subst IsNoFrame (exact x.before x.given ∙ x.stood) x.none)
-
         go : Result → Hears (value ∷ more)
         go (inl x) =
             let b = still o refl (no-frame o x.none) in
-            record { left = back; goes = x.goes; ts' = b.ts; heard' = b.heard; path = path-none how service tei before (with (station there b.ts u) back) (ap (λ s. with s back) b.is) }
+            record { left = back; goes = x.goes; ts' = b.ts; heard' = b.heard; path = path-none service tei before (with (station there b.ts u) back) (ap (λ s. with s back) b.is) }
         go (inr (inl x)) =
             let b = still o refl (no-frame o x.none) in
             record {
@@ -89,9 +71,8 @@ module _ (how : Manner) (service : Service) (tei : ℕ) (c d : Config) (ranged_f
               goes = x.goes;
               ts' = b.ts;
               heard' = b.heard;
-              path = path-turned how service tei (turned before) (turned (with (station there b.ts u) x.left))
-                  (path-one how service tei loses (may x kept) 0 0 0 (turned before) (turned (with (station there b.ts u) x.left)) refl refl refl
-                  tt (λ i. record { near = record y { way = drop 1 (x.are i) }; far = b.is i }));
+              path = path-turned service tei (turned before) (turned (with (station there b.ts u) x.left))
+                  (path-one service tei loses tt (turned before) (turned (with (station there b.ts u) x.left)) tt (λ i. record { near = record y { way = drop 1 (x.are i) }; far = b.is i }));
             }
         go (inr (inr x)) =
             let e = stream.frame x.frame_is in
@@ -102,7 +83,7 @@ module _ (how : Manner) (service : Service) (tei : ℕ) (c d : Config) (ranged_f
               goes = x.goes;
               ts' = b.ts;
               heard' = b.heard;
-              path = path-one how service tei receives tt 0 0 0 before (with (station there b.ts u) x.left) refl refl refl tt
+              path = path-one service tei receives tt before (with (station there b.ts u) x.left) tt
                   ((λ i. record { near = wire.with_first_of (x.are i) (station there ts a.at); far = record y { way = drop 1 (x.are i) } })
                   ∙ ap (λ s. with s x.left) (ap (λ e. wire.happens (line.hears e) (station there ts a.at)) whole ∙ b.is));
             }
@@ -110,12 +91,6 @@ module _ (how : Manner) (service : Service) (tei : ℕ) (c d : Config) (ranged_f
   pub hears-so : (way : List ℕ) (n : ℕ) → length way ≡ n + 1 → (goes : Going c.n201 (port_of other) way back)
       → ((value : ℕ) (more : List ℕ) (e : stream.Event) → way ≡ value ∷ more → gained c.n201 (port_of a.at).received (unwrap_or noise value) ≡ Some e → IsFrame e
       → (before : List ℕ) × ((port_of other).given ≡ before ++ way) × (gained c.n201 before value ≡ Some e))
-      → (MayLose how ⊎ ((value : ℕ) (more before : List ℕ) → way ≡ value ∷ more → (port_of other).given ≡ before ++ value ∷ more → gained c.n201 (port_of a.at).received (unwrap_or noise value) ≡ gained c.n201 before value))
       → Hears way
-  hears-so [] n long goes clear kept = absurd (omega (arith, long))
-  hears-so (value ∷ more) n long goes clear kept = hears-one value more goes (λ e gains so. clear value more e refl gains so) (its kept)
-    where
-      its : (MayLose how ⊎ ((v : ℕ) (vs before : List ℕ) → value ∷ more ≡ v ∷ vs → (port_of other).given ≡ before ++ v ∷ vs → gained c.n201 (port_of a.at).received (unwrap_or noise v) ≡ gained c.n201 before v))
-          → MayLose how ⊎ ((before : List ℕ) → (port_of other).given ≡ before ++ value ∷ more → gained c.n201 (port_of a.at).received (unwrap_or noise value) ≡ gained c.n201 before value)
-      its (inl y) = inl y
-      its (inr exact) = inr (λ before given. exact value more before refl given)
+  hears-so [] n long goes clear = absurd (omega (arith, long))
+  hears-so (value ∷ more) n long goes clear = hears-one value more goes (λ e gains so. clear value more e refl gains so)

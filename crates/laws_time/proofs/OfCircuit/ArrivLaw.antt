@@ -1,10 +1,9 @@
 -- A call bears noise: what is told of it on a wire is told of the circuit.
-use Rattle.laws_time.proofs.Vocabulary.{All, All-head, All-tail, AreAsked, CallsBearNoise, Clocked, F, Face, FrameEndpoint, IsBeginningOf, IsFit, IsInRangeTerms as IsInRange, IsTold, Line, LineTold, List, OctetEndpoint, TimedEndpoint, Wire, [], after, ap, begins, calling, calls, confirmed, data_told, errors_at, flat_map, for_layer_3, indicated, is_used_up, list_any, list_any-append, map, arith}
+use Rattle.laws_time.proofs.Vocabulary.{All, All-head, All-tail, AreAsked, CallsBearNoise, Clocked, F, Face, FrameEndpoint, IsBeginningOf, IsFit, IsInRangeTerms as IsInRange, IsTold, Line, LineTold, List, OctetEndpoint, TimedEndpoint, Wire, [], after, ap, arith, begins, calling, calls, confirmed, data_told, errors_at, flat_map, for_layer_3, indicated, is_used_up, list_any, list_any-append, map}
 use Rattle.laws_time.proofs.Vocabulary.{or_parts, setting, subst, sym, terms, ℕ, ◌++◌, ◌∙◌, ◌∷◌, ◌≡◌}
 use Rattle.laws_wire.specs.Losing.{heard_in}
 use Rattle.laws_time.proofs.OfCircuit.ArrivBegan.{reached}
 use Rattle.laws_time.proofs.OfCircuit.ArrivFair.{codes}
-use Rattle.laws_time.proofs.OfCircuit.ArrivPath.{of_call, talk-of}
 use Rattle.laws_time.proofs.OfCircuit.ArrivRun.{Reached}
 use Rattle.laws_time.proofs.OfCircuit.ArrivTold.{Concluded, IsFree, call-concludes, codes-heard, contents-heard, contents_of}
 use Rattle.laws_time.proofs.OfCircuit.ArrivAs.{station, heard_of}
@@ -43,4 +42,4 @@ calls-bear-noise l before bs b fit idle all clear = λ fair.
     let s = setting l.service l.near l.far l.near_line l.far_line l.tei fit.call in
     is-told l fit (calling l.service l.tei l.near l.near_line l.far l.far_line) w r s.face s.back s.near s.far
     (subst (Concluded l.service l.tei l.near l.far 0 0 s.face s.back s.near s.far) r.path.leads
-    (call-concludes l.service l.near l.far l.near_line l.far_line l.tei r.path.steps fit.call (talk-of of_call l.service l.tei (calling l.service l.tei l.near l.near_line l.far l.far_line) r.f r.path) r.path.patient))
+    (call-concludes l.service l.near l.far l.near_line l.far_line l.tei r.path.steps fit.call r.path.done r.path.patient))

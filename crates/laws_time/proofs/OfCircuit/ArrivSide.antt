@@ -1,26 +1,22 @@
 -- What layer 3 asks at an end of the clocked circuit, and what falls due there, is done at the station for which it stands, where T200 is
 -- long enough.
-use Rattle.laws_time.proofs.Vocabulary.{All, All-head, All-tail, Config, Expiry, FrameEndpoint, HasNo, IsInRange, IsLongEnough, IsOfLink, Lengths, LineTold, LinkEndpoint, List, None, Option, Request, Service, Some, StationStands, TimedEndpoint, Timer, Wire, [], ap, arith, asks, awaits_in, card_of, due, expires, fall_due, falls}
-use Rattle.laws_time.proofs.Vocabulary.{fold, fresh, happens, is_final, is_poll, is_t200, is_waiting, length, open-here, option_map_or, port_of, refl, requests, runs-is, runs_t200, state-is, state_number, subst, suc, sym, true, without_first, zero, ℕ, ◌&&◌, ◌*◌, ◌+◌, ◌<◌, ◌∙◌, ◌∷◌, ◌≡◌, ◌≤◌}
+use Rattle.laws_time.proofs.Vocabulary.{All, All-head, All-tail, Config, Expiry, FrameEndpoint, HasNo, IsAskedOfLink, IsInRange, IsLongEnough, IsOfLink, Lengths, LineTold, LinkEndpoint, List, None, Option, Request, Service, Some, StationStands, TimedEndpoint, Timer, Wire, [], ap, arith, asks, awaits_in, due, expires, fall_due, falls, fold, happens, is_final, is_poll, is_waiting, length, open-here}
+use Rattle.laws_time.proofs.Vocabulary.{option_map_or, port_of, refl, requests, state-is, state_number, subst, suc, sym, true, without_first, zero, ℕ, ◌*◌, ◌+◌, ◌<◌, ◌∙◌, ◌∷◌, ◌≡◌, ◌≤◌}
 use Rattle.lapd_frame.specs.declared.timers.Timer.TheVariants as timers
 use Rattle.model_line.specs.Event as line
 use Rattle.model_card.specs.ports.Port as port
 use Rattle.laws_wire.specs.Wire as wire
-use Rattle.laws_time.proofs.OfCircuit.Fallen as seldom
-unfoldable use Rattle.laws_time.proofs.OfCircuit.Fallen.{fallen}
 use Rattle.laws_time.proofs.OfCircuit.Acts.{Goes, asks-goes, fell-goes, soon-then}
 use Rattle.laws_time.proofs.OfCircuit.ArrivAs.{station, heard_of, Becomes, asked-becomes, expired-becomes}
 use Rattle.laws_time.proofs.OfCircuit.ArrivFair.{IsFair, fair-parts, fair-may}
 use Rattle.laws_time.proofs.OfCircuit.ArrivOpen.{parts, are-own, stands, has-none}
-use Rattle.laws_time.proofs.OfCircuit.ArrivPath.{Manner, MayAsk, Path, count, path-none, path-both, path-one}
+use Rattle.laws_time.proofs.OfCircuit.ArrivPath.{Path, path-none, path-both, path-one}
 use Rattle.laws_time.proofs.OfCircuit.ArrivWay.{Going, going-with, before-long}
-use Rattle.laws_time.proofs.OfCircuit.Ends.{Leads, leads-both, first-of, timed}
-use Rattle.laws_time.proofs.OfCircuit.InCallWalk.{Walks, event-walks, due-walks}
+use Rattle.laws_time.proofs.OfCircuit.Ends.{first-of}
 use Rattle.laws_time.proofs.OfCircuit.Kinds.{asks as asks_frame}
 use Rattle.laws_time.proofs.OfCircuit.LongEnough.{due-is}
 use Rattle.laws_time.proofs.OfCircuit.Open.{half}
 use Rattle.laws_time.proofs.OfCircuit.Orders.{RunsOurs}
-use Rattle.laws_time.proofs.OfCircuit.ArrivRuns.{link-runs}
 use Rattle.laws_time.proofs.OfCircuit.Standing.{bare, expired-reply}
 use Rattle.laws_time.proofs.OfCircuit.Under.{EndOk}
 use Rattle.laws_time.proofs.OfCircuit.Keeping.{falls-keep}
@@ -45,7 +41,7 @@ no-polls n h = grind arith
 same-waits : (k : ℕ) → awaits_in (Some k) ≡ is_waiting k
 same-waits k = grind arith
 
-module _ (how : Manner) (service : Service) (tei : ℕ) (c : Config) (ranged : IsInRange c) (d : Config) (lengths : Lengths) (rate transit total n moment : ℕ)
+module _ (service : Service) (tei : ℕ) (c : Config) (ranged : IsInRange c) (d : Config) (lengths : Lengths) (rate transit total n moment : ℕ)
     (ago : (S m : ℕ) → S + lengths.t200 * rate ≤ (m + 1) * rate → m ≤ moment → S + total ≤ n)
     (wide : (S : ℕ) → transit + (S + half c service tei 0 ranged) < S + total)
     (low M : ℕ) (y : FrameEndpoint) (m : LinkEndpoint) (y_stands : StationStands d service tei 0 y m)
@@ -63,31 +59,27 @@ module _ (how : Manner) (service : Service) (tei : ℕ) (c : Config) (ranged : I
     pub ts : List LineTold
     pub is : x ≡ station there ts a.at
     pub heard : heard_of ts ≡ heard_of a.at.told
-    pub timed : Leads (fresh c lengths) (card_of a)
 
-  -- After so many expiries, of T200 and of T203.
-  pub record After (i k : ℕ) (x : FrameEndpoint) (u : TimedEndpoint) : Type 0 where
+  -- What is done there.
+  pub record After (x : FrameEndpoint) (u : TimedEndpoint) : Type 0 where
     pub S : ℕ
     pub x' : FrameEndpoint
     pub stood : Stood S u x'
-    pub path : Path how service tei i 0 k 0 (record { near = x; far = y }) (record { near = x'; far = y })
+    pub path : Path service tei (record { near = x; far = y }) (record { near = x'; far = y })
 
   abbrev with : FrameEndpoint → Wire
   with x = record { near = x; far = y }
 
-  after-none : (S : ℕ) (a : TimedEndpoint) (x : FrameEndpoint) → Stood S a x → After 0 0 x a
-  after-none S a x h = record { S = S; x' = x; stood = h; path = path-none how service tei (with x) (with x) refl }
+  after-none : (S : ℕ) (a : TimedEndpoint) (x : FrameEndpoint) → Stood S a x → After x a
+  after-none S a x h = record { S = S; x' = x; stood = h; path = path-none service tei (with x) (with x) refl }
 
-  after-as : (i k i' k' : ℕ) (x : FrameEndpoint) (u : TimedEndpoint) → i ≡ i' → k ≡ k' → After i k x u → After i' k' x u
-  after-as i k i' k' x u same other g = grind arith
-
-  after-both : (x : FrameEndpoint) (u v : TimedEndpoint) → {i k i' k' : ℕ} → (g : After i k x u) → After i' k' g.x' v → After (i + i') (k + k') x v
-  after-both x u v g k = record { S = k.S; x' = k.x'; stood = k.stood; path = path-both how service tei (with x) (with g.x') (with k.x') g.path k.path }
+  after-both : (x : FrameEndpoint) (u v : TimedEndpoint) (g : After x u) → After g.x' v → After x v
+  after-both x u v g k = record { S = k.S; x' = k.x'; stood = k.stood; path = path-both service tei (with x) (with g.x') (with k.x') g.path k.path }
 
   -- An event at both.
   pub stood-then : (S : ℕ) (a u : TimedEndpoint) (x : FrameEndpoint) (h : Stood S a x) (e : line.Event) (g : Goes c service tei 0 ranged lengths rate S M a u)
-      → Leads (card_of a) (card_of u) → Becomes (wire.happens e (station h.there h.ts a.at)) h.there u.at → Stood g.S' u (wire.happens e x)
-  stood-then S a u x h e g leads b = record {
+      → Becomes (wire.happens e (station h.there h.ts a.at)) h.there u.at → Stood g.S' u (wire.happens e x)
+  stood-then S a u x h e g b = record {
     ok = g.ok;
     later = let first = h.later in let then = g.later in omega (arith, first, then);
     given = ap (λ (p : port.Port). length p.given) g.port ∙ h.given;
@@ -99,27 +91,23 @@ module _ (how : Manner) (service : Service) (tei : ℕ) (c : Config) (ranged : I
     ts = b.ts;
     is = ap (wire.happens e) h.is ∙ b.is;
     heard = b.heard;
-    timed = leads-both (fresh c lengths) (card_of a) (card_of u) h.timed leads;
   }
 
-  walked : (a u : TimedEndpoint) → Walks service tei a u → Leads (card_of a) (card_of u)
-  walked a u w = record { steps = w.steps; leads = w.leads; prompt = w.prompt }
-
   -- Layer 3 asks.
-  asks-one : (S : ℕ) (a : TimedEndpoint) (x : FrameEndpoint) (h : Stood S a x) (r : Request) → IsOfLink service tei r → MayAsk how service tei r → After 0 0 x (happens (port.request r) a)
+  asks-one : (S : ℕ) (a : TimedEndpoint) (x : FrameEndpoint) (h : Stood S a x) (r : Request) → IsOfLink service tei r → IsAskedOfLink service tei r → After x (happens (port.request r) a)
   asks-one S a x h r of_link asked =
       let g = asks-goes c service tei 0 ranged lengths rate a S M h.ok h.soon r of_link in
       record {
         S = g.S';
         x' = wire.happens (line.request r) x;
-        stood = stood-then S a (happens (port.request r) a) x h (line.request r) g (walked a (happens (port.request r) a) (event-walks service tei c ranged lengths rate (port.request r) a S M h.ok tt)) (asked-becomes r h.there a.at h.ts h.heard);
-        path = path-one how service tei (requests r) asked 0 0 0 (with x) (with (wire.happens (line.request r) x)) refl refl refl tt refl;
+        stood = stood-then S a (happens (port.request r) a) x h (line.request r) g (asked-becomes r h.there a.at h.ts h.heard);
+        path = path-one service tei (requests r) asked (with x) (with (wire.happens (line.request r) x)) tt refl;
       }
 
   abbrev pub IsBoth : Request → Type 0
-  IsBoth r = IsOfLink service tei r × MayAsk how service tei r
+  IsBoth r = IsOfLink service tei r × IsAskedOfLink service tei r
 
-  pub all-asks : (rs : List Request) (S : ℕ) (a : TimedEndpoint) (x : FrameEndpoint) → Stood S a x → All IsBoth rs → After 0 0 x (fold asks a rs)
+  pub all-asks : (rs : List Request) (S : ℕ) (a : TimedEndpoint) (x : FrameEndpoint) → Stood S a x → All IsBoth rs → After x (fold asks a rs)
   all-asks [] S a x h all = after-none S a x h
   all-asks (r ∷ rs) S a x h all =
       let u = happens (port.request r) a in
@@ -156,57 +144,40 @@ module _ (how : Manner) (service : Service) (tei : ℕ) (c : Config) (ranged : I
     goes-so : (timer : Timer) → e.timer ≡ timer → Goes c service tei 0 ranged lengths rate S M a (falls_so timer)
     goes-so timer same = subst (λ t. Goes c service tei 0 ranged lengths rate S M a (falls_so t)) same (fell-goes c service tei 0 ranged lengths rate a S M h.ok h.soon e falls_now)
 
-    -- It runs at the link, too.
-    runs-so : e.timer ≡ timers.T200 service tei → runs_t200 service tei x ≡ true
-    runs-so same =
-        let ends = h.ok.but.ends in
-        let run = link-runs c ranged service tei lengths a ends (timed c lengths a h.timed) (due-is a.at.line a.clock.now (timers.T200 service tei) a.clock.running e h.ok.but.clock.here falls_now same).0 in
-        ap (runs_t200 service tei) h.is ∙ runs-is service tei c 0 X its X-stands run.0 ∙ run.1
-
-    fell-with : (timer : Timer) → (i k : ℕ) → count (is_t200 (expires timer) && runs_t200 service tei x) ≡ i → 1 ≡ i + k → e.timer ≡ timer → Rattle.laws_wire.specs.Losing.IsOfLink service tei timer
-        → Rattle.laws_wire.specs.Timely.IsTimelyOf (expires timer) (with X) → After i k x (falls_so timer)
-    fell-with timer i k often all same own timely =
+    fell-with : (timer : Timer) → e.timer ≡ timer → Rattle.laws_wire.specs.Losing.IsOfLink service tei timer → Rattle.laws_wire.specs.Timely.IsTimelyOf (expires timer) (with X) → After x (falls_so timer)
+    fell-with timer same own timely =
         let g = goes-so timer same in
         record {
           S = g.S';
           x' = wire.happens (line.expiry timer) x;
-          stood = stood-then S a (falls_so timer) x h (line.expiry timer) g (walked a (falls_so timer) (subst (λ t. Walks service tei a (falls_so t)) same (due-walks service tei c ranged lengths rate a S M h.ok e falls_now))) (expired-becomes timer h.there a.at h.ts h.heard);
-          path = path-one how service tei (expires timer) own i k 0 (with x) (with (wire.happens (line.expiry timer) x)) often all refl (subst (λ x. Rattle.laws_wire.specs.Timely.IsTimelyOf (expires timer) (with x)) (sym h.is) timely) refl;
+          stood = stood-then S a (falls_so timer) x h (line.expiry timer) g (expired-becomes timer h.there a.at h.ts h.heard);
+          path = path-one service tei (expires timer) own (with x) (with (wire.happens (line.expiry timer) x)) (subst (λ x. Rattle.laws_wire.specs.Timely.IsTimelyOf (expires timer) (with x)) (sym h.is) timely) refl;
         }
 
-    t200-fell : e.timer ≡ timers.T200 service tei → IsFair (falls_so (timers.T200 service tei)).at.told → After 1 0 x (falls_so (timers.T200 service tei))
+    t200-fell : e.timer ≡ timers.T200 service tei → IsFair (falls_so (timers.T200 service tei)).at.told → After x (falls_so (timers.T200 service tei))
     t200-fell same fair =
         let told = ap (λ (z : FrameEndpoint). z.told) (expired-reply (timers.T200 service tei) a.at []) in
-        fell-with (timers.T200 service tei) 1 0 (ap count (runs-so same)) refl same (refl, refl)
+        fell-with (timers.T200 service tei) same (refl, refl)
         (long same, fair-may service tei 0 c X its X-stands (fair-parts a.at.told (wire.told_by (wire.answered (line.expiry (timers.T200 service tei)) X)) (subst IsFair told fair)).1)
 
-    pub falls-one : IsFair (falls a e).at.told → After (count (seldom.is_t200 e.timer)) (count (seldom.is_t203 e.timer)) x (falls a e)
+    pub falls-one : IsFair (falls a e).at.told → After x (falls a e)
     falls-one =
-        own-timer service tei (λ timer. e.timer ≡ timer → IsFair (falls_so timer).at.told → After (count (seldom.is_t200 timer)) (count (seldom.is_t203 timer)) x (falls_so timer)) t200-fell
-        (λ same fair. fell-with (timers.T203 service tei) 0 1 refl refl same (refl, refl) tt) e.timer (first-of (RunsOurs service tei) a.clock.running a.clock.now e h.ok.but.ours falls_now) refl
+        own-timer service tei (λ timer. e.timer ≡ timer → IsFair (falls_so timer).at.told → After x (falls_so timer)) t200-fell
+        (λ same fair. fell-with (timers.T203 service tei) same (refl, refl) tt) e.timer (first-of (RunsOurs service tei) a.clock.running a.clock.now e h.ok.but.ours falls_now) refl
 
-  fell-then : (k S : ℕ) (a : TimedEndpoint) (x : FrameEndpoint) → Stood S a x
-      → ((S : ℕ) (u : TimedEndpoint) (x : FrameEndpoint) → Stood S u x → IsFair (fall_due k u).at.told → After (fallen seldom.is_t200 k u) (fallen seldom.is_t203 k u) x (fall_due k u))
-      → (o : Option Expiry) → due a.clock ≡ o → IsFair (fall_due k (option_map_or (falls a) o a)).at.told
-      → After (seldom.one_of seldom.is_t200 o + fallen seldom.is_t200 k (option_map_or (falls a) o a)) (seldom.one_of seldom.is_t203 o + fallen seldom.is_t203 k (option_map_or (falls a) o a)) x
-      (fall_due k (option_map_or (falls a) o a))
-  fell-then k S a x h rest None is fair =
-      let n = fallen seldom.is_t200 k a in let m = fallen seldom.is_t203 k a in
-      after-as n m (0 + n) (0 + m) x (fall_due k a) (omega arith) (omega arith) (rest S a x h fair)
+  fell-then : (k S : ℕ) (a : TimedEndpoint) (x : FrameEndpoint) → Stood S a x → ((S : ℕ) (u : TimedEndpoint) (x : FrameEndpoint) → Stood S u x → IsFair (fall_due k u).at.told → After x (fall_due k u))
+      → (o : Option Expiry) → due a.clock ≡ o → IsFair (fall_due k (option_map_or (falls a) o a)).at.told → After x (fall_due k (option_map_or (falls a) o a))
+  fell-then k S a x h rest None is fair = rest S a x h fair
   fell-then k S a x h rest (Some e) is fair =
       let one = falls-one S a x h e is (fair-falls k (falls a e) fair) in
       after-both x (falls a e) (fall_due k (falls a e)) one (rest one.S (falls a e) one.x' one.stood fair)
 
-  pub all-falls : (k S : ℕ) (a : TimedEndpoint) (x : FrameEndpoint) → Stood S a x → IsFair (fall_due k a).at.told → After (fallen seldom.is_t200 k a) (fallen seldom.is_t203 k a) x (fall_due k a)
-  unfolding fall_due fallen
+  pub all-falls : (k S : ℕ) (a : TimedEndpoint) (x : FrameEndpoint) → Stood S a x → IsFair (fall_due k a).at.told → After x (fall_due k a)
+  unfolding fall_due
   all-falls zero S a x h fair = after-none S a x h
   all-falls (suc k) S a x h fair = fell-then k S a x h (λ S' u x' k' later. all-falls k S' u x' k' later) (due a.clock) refl fair
 
   -- Layer 3 asks, and then what is due falls due.
-  pub all-comes : (rs : List Request) (k S : ℕ) (a : TimedEndpoint) (x : FrameEndpoint) → Stood S a x → All IsBoth rs → IsFair (fall_due k (fold asks a rs)).at.told
-      → After (fallen seldom.is_t200 k (fold asks a rs)) (fallen seldom.is_t203 k (fold asks a rs)) x (fall_due k (fold asks a rs))
+  pub all-comes : (rs : List Request) (k S : ℕ) (a : TimedEndpoint) (x : FrameEndpoint) → Stood S a x → All IsBoth rs → IsFair (fall_due k (fold asks a rs)).at.told → After x (fall_due k (fold asks a rs))
   all-comes rs k S a x h all fair =
-      let u = fold asks a rs in
-      let one = all-asks rs S a x h all in
-      let n = fallen seldom.is_t200 k u in let m = fallen seldom.is_t203 k u in
-      after-as (0 + n) (0 + m) n m x (fall_due k u) (omega arith) (omega arith) (after-both x u (fall_due k u) one (all-falls k one.S u one.x' one.stood fair))
+      let u = fold asks a rs in let one = all-asks rs S a x h all in after-both x u (fall_due k u) one (all-falls k one.S u one.x' one.stood fair)

@@ -1,6 +1,6 @@
 -- One direction of the clocked circuit: the frames on the way of an end, where what comes at the other may be noise.
 use Rattle.laws_time.proofs.Vocabulary.{All, AreOctets, Bool, Carries, Config, IsFrame, IsInRange, IsSoundPort, List, NextFrame, None, OctetEndpoint, OneHeard, Option, Port, Ran, Some, [], answer, answer_to, ap, append_assoc, append_cancel_right, arith, as_endpoint, came, cond, drop, false, frames_among, gained, given_in, gives-octets, if_meant, inl, inr, is_due, item_of, length, length-append}
-use Rattle.laws_time.proofs.Vocabulary.{line_answer, meant, next_octet, none-heard, on-line, one-given, one-heard, one-put, option_map, port-after, port_of, refl, sound-port, subst, sym, takes_slot, true, with_item, with_octet, within-ports, ℕ, ◌++◌, ◌+◌, ◌∙◌, ◌∷◌, ◌≡◌, ◌≤◌, ◌⊎◌}
+use Rattle.laws_time.proofs.Vocabulary.{line_answer, meant, next_octet, none-heard, on-line, one-heard, one-put, option_map, port-after, port_of, refl, replicate, sound-port, subst, sym, takes_slot, true, with_item, with_octet, within-ports, ℕ, ◌++◌, ◌+◌, ◌∙◌, ◌∷◌, ◌≡◌, ◌≤◌, ◌⊎◌}
 use Rattle.model_bits.specs.Stream as stream
 use Rattle.model_line.specs.Event as line
 use Rattle.model_card.specs.Event as frames
@@ -30,20 +30,32 @@ frame-put g = grind arith
 octets-put : (g : Option NextFrame) → ((f : NextFrame) → g ≡ Some f → AreOctets f.octets) → All AreOctets (frames_among (item_of g ∷ []))
 octets-put g h = grind arith
 
+-- So many flags of the beginning, and then what was given: some of it was received, and the rest is in transit.
+abbrev pub flagged : ℕ → Port → Port
+flagged k p = record p { given = replicate k 0x7E ++ p.given }
+
+abbrev pub Flow : ℕ → ℕ → Port → List ℕ → List ℕ → List (List ℕ) → Type 0
+Flow n201 k p way received frames = Carries n201 (flagged k p) way received frames
+
+octet-flows : (n201 k : ℕ) (p : Port) (way received : List ℕ) (frames : List (List ℕ)) → Flow n201 k p way received frames → Flow n201 k (with_octet p) (way ++ next_octet p ∷ []) received frames
+octet-flows n201 k p way received frames h = record {
+  given = sym (append_assoc (replicate k 0x7E) p.given (next_octet p ∷ [])) ∙ ap (λ os. os ++ next_octet p ∷ []) h.given ∙ append_assoc received way (next_octet p ∷ []);
+  are = h.are;
+  octets = h.octets;
+}
+
 module _ (c : Config) (ranged : IsInRange c) (s : OctetEndpoint) (ran : Ran c s) (there : List (List ℕ)) where
-  pub pulled-goes : (rest before : List ℕ) → Carries c.n201 (port_of s) rest before there → (due : Bool) → let o : Option line.Event = cond due (Some line.next) None in
+  pub pulled-goes : (n201 k : ℕ) (way received : List ℕ) → Flow n201 k (port_of s) way received there → (due : Bool) → let o : Option line.Event = cond due (Some line.next) None in
       let q = with_item (option_map (answer_to s.card.card) (option_map (frames.at s.line) o)) (port_of s) in
-      Carries c.n201 (with_octet q) (rest ++ next_octet q ∷ []) before (if_meant o (as_endpoint there s)).way
+      Flow n201 k (with_octet q) (way ++ next_octet q ∷ []) received (if_meant o (as_endpoint there s)).way
   unfolding line_answer takes_slot
-  pulled-goes rest before carries true =
+  pulled-goes n201 k way received flow true =
       let g = given_in (machine.answer (frames.at s.line line.next) s.card.card) in
       let q : Port = record (port_of s) { items = (port_of s).items ++ item_of g ∷ [] } in
-      subst (λ frames. Carries c.n201 (with_octet q) (rest ++ next_octet q ∷ []) before (there ++ frames)) (frame-put g)
-      (one-given c.n201 q rest before (there ++ frames_among (item_of g ∷ []))
-      (one-put c.n201 (port_of s) rest before there carries (item_of g)
-      (octets-put g (λ f is. gives-octets c ranged s ran f (ap line.gave is))))
-      (next_octet q))
-  pulled-goes rest before carries false = one-given c.n201 (port_of s) rest before there carries (next_octet (port_of s))
+      subst (λ frames. Flow n201 k (with_octet q) (way ++ next_octet q ∷ []) received (there ++ frames)) (frame-put g)
+      (octet-flows n201 k q way received (there ++ frames_among (item_of g ∷ []))
+      (one-put n201 (flagged k (port_of s)) way received there flow (item_of g) (octets-put g (λ f is. gives-octets c ranged s ran f (ap line.gave is)))))
+  pulled-goes n201 k way received flow false = octet-flows n201 k (port_of s) way received there flow
 
   pub pulled-way : (due : Bool) → is_due (port_of s) ≡ due → Going c.n201 (port_of s) s.way there
       → Going c.n201 (port_of (happens port.pull s)) (happens port.pull s).way (if_meant (cond due (Some line.next) None) (as_endpoint there s)).way
@@ -58,7 +70,7 @@ module _ (c : Config) (ranged : IsInRange c) (s : OctetEndpoint) (ran : Ran c s)
         rest = h.rest ++ next_octet q ∷ [];
         before = h.before;
         carries = subst (λ p. Carries c.n201 p (h.rest ++ next_octet q ∷ []) h.before frames_now) (sym (port-after s port.pull (within-ports c ranged s ran)))
-            (pulled-goes h.rest h.before h.carries (is_due (port_of s)));
+            (pulled-goes c.n201 0 h.rest h.before h.carries (is_due (port_of s)));
         way_is = ap (λ w. w ++ next_octet q ∷ []) h.way_is ∙ append_assoc h.flags h.rest (next_octet q ∷ []);
         first = h.first;
       })
@@ -80,10 +92,7 @@ module _ (n201 : ℕ) (c : Config) (ranged : IsInRange c) (size : c.n201 ≡ n20
 
   pub record Loses : Type 0 where
     pub none : IsNoFrame o
-    pub before : List ℕ
-    pub given : (port_of s).given ≡ before ++ value ∷ more
     pub lost : List ℕ
-    pub stood : gained n201 before value ≡ Some (stream.frame lost)
     pub left : List (List ℕ)
     pub are : there ≡ lost ∷ left
     pub goes : Going n201 (port_of s) more left
@@ -173,16 +182,7 @@ module _ (n201 : ℕ) (c : Config) (ranged : IsInRange c) (size : c.n201 ≡ n20
               its x f gains so = let y = clear f gains so in same-event f e (sym y.2 ∙ ap (λ b. gained n201 b value) (same-before y.0 y.1) ∙ some)
 
               lost-so : OneHeard n201 (port_of s) h.rest h.before there h.carries sound (on-line c ranged s ran) value more e → IsNoFrame o → Loses
-              lost-so x none = record {
-                none = none;
-                before = h.before;
-                given = given_is;
-                lost = x.first;
-                stood = some ∙ ap (λ e. Some e) x.event;
-                left = x.rest;
-                are = x.frames_are;
-                goes = then x.rest x.carries;
-              }
+              lost-so x none = record { none = none; lost = x.first; left = x.rest; are = x.frames_are; goes = then x.rest x.carries }
 
               by-gain : OneHeard n201 (port_of s) h.rest h.before there h.carries sound (on-line c ranged s ran) value more e → (g : Option stream.Event) → o ≡ g → Comes
               by-gain x None is = inr (inl (lost-so x (subst IsNoFrame (sym is) tt)))

@@ -1,7 +1,7 @@
 -- Two ends of the clocked circuit as they begin: nothing is under way, and no timer runs.
-use Rattle.laws_time.proofs.Vocabulary.{All, All-nil, AreInRange, AreOctets, Assign, Bool, Card, Config, GivesOctets, IsInRange, Lengths, List, OctetEndpoint, Port, Ran, Service, Some, StationStands, [], answered, ap, arith, asked-as, asked-way, at, cond, endpoint, first, flags, frames_among, fresh_at, fresh_link, fresh_port, goes-on}
-use Rattle.laws_time.proofs.Vocabulary.{is_final, is_terminal, length, length-replicate, line_answer, meant_all, moments as frame_moments, octet_at, octet_endpoint, octet_orders, of_aim, of_network, of_terminal, orders_in, port-after, port_of, ports_fresh as fresh, refl, refusal, some-in, stopped, subst, sym, tei_assign, tei_course, tei_refusal, terminal_course}
-use Rattle.laws_time.proofs.Vocabulary.{true≢false, unless_refused, unless_refused_told, within-ports, ℕ, ◌+◌, ◌<◌, ◌∙◌, ◌≡◌, ◌≤◌}
+use Rattle.laws_time.proofs.Vocabulary.{All, All-nil, AreInRange, AreOctets, Assign, Bool, Card, Config, GivesOctets, IsInRange, Lengths, List, OctetEndpoint, Port, Ran, Service, Some, StationStands, [], answered, ap, arith, as_endpoint, asked-as, asked-way, at, cond, endpoint, first, flags, frames_among, fresh_at, fresh_link, fresh_port, goes-on, is_final, is_terminal, length, length-replicate}
+use Rattle.laws_time.proofs.Vocabulary.{line_answer, meant_all, moments as frame_moments, octet_at, octet_endpoint, octet_orders, of_aim, of_network, of_terminal, orders_in, port-after, port_of, ports_fresh as fresh, refl, refusal, some-in, stopped, subst, sym, tei_assign, tei_course, tei_refusal, terminal_course, true≢false, unless_refused, unless_refused_told, within-ports, ℕ, ◌+◌, ◌<◌, ◌∙◌}
+use Rattle.laws_time.proofs.Vocabulary.{◌≡◌, ◌≤◌}
 use Rattle.model_teis.specs.terminal.Events as terminals
 use Rattle.model_line.specs.Event as line
 use Rattle.model_line.specs.Line.{Line}
@@ -9,6 +9,7 @@ use Rattle.model_card.specs.Machine as machine
 use Rattle.model_card.specs.ports.Port as port
 use Rattle.model_card.specs.ports.Run.{IsAtLine, after_all}
 use Rattle.laws_wire.proofs.Beginning.{answers}
+use Rattle.laws_wire.specs.Call as call
 use Rattle.laws_order.specs.circuit.Circuit as circuit
 use Rattle.laws_time.proofs.OctetsMean.{orders-are}
 use Rattle.laws_time.proofs.Moments.{lengths-stay}
@@ -43,30 +44,43 @@ assign-orders number tei card = grind (arith, assigned-none)
 pub sends-none : (n201 : ℕ) (kind : List ℕ → Bool) (most : ℕ) (p : Port) → p ≡ fresh_port → Sends n201 kind most p []
 sends-none n201 kind most p is = grind (arith, some-in, none-wait, text_length, fresh_port)
 
-module _ (c : Config) (service : Service) (tei number way : ℕ) (ranged : IsInRange c) (within : number < c.lines) (few : tei ≤ 126) (lengths : Lengths) (in_range : AreInRange lengths) (rate : ℕ) where
-  abbrev pub start : OctetEndpoint
+module _ (c : Config) (ranged : IsInRange c) (number tei way : ℕ) (within : number < c.lines) where
+  abbrev start : OctetEndpoint
   start = record (octet_endpoint c number) { way = flags way }
 
-  abbrev begun : OctetEndpoint
-  begun = circuit.happens (port.request (Assign tei)) (record (octet_endpoint c number) { way = flags way })
-
-  pub ran-start : Ran c (record (octet_endpoint c number) { way = flags way })
+  ran-start : Ran c (record (octet_endpoint c number) { way = flags way })
   unfolding after_all meant_all frame_moments
   ran-start = record { within = within; events = []; at_lines = All-nil (IsAtLine (fresh c)); is = refl; exact = All-nil GivesOctets }
+
+  pub ran-begun : Ran c (circuit.happens (port.request (Assign tei)) (record (octet_endpoint c number) { way = flags way }))
+  ran-begun = goes-on c start (port.request (Assign tei)) (All-nil (λ octet. octet < 256)) ran-start
 
   pub port-is : port_of (circuit.happens (port.request (Assign tei)) (record (octet_endpoint c number) { way = flags way })) ≡ fresh_port
   port-is = port-after start (port.request (Assign tei)) (within-ports c ranged start ran-start) ∙ fresh_at c number within
 
+  pub way-is : (circuit.happens (port.request (Assign tei)) (record (octet_endpoint c number) { way = flags way })).way ≡ flags way
+  way-is = asked-way (Assign tei) start
+
+  pub station-is : as_endpoint [] (circuit.happens (port.request (Assign tei)) (record (octet_endpoint c number) { way = flags way })) ≡ call.assigned c number tei
+  station-is = asked-as (Assign tei) start []
+
   pub none-ordered : octet_orders (answered (port.request (Assign tei)) start) ≡ []
   none-ordered = orders-are (octet_at number (port.request (Assign tei))) start.card (Some (line.request (Assign tei))) refl ∙ assign-orders number tei start.card.card
 
+module _ (c : Config) (service : Service) (tei number way : ℕ) (ranged : IsInRange c) (within : number < c.lines) (few : tei ≤ 126) (lengths : Lengths) (in_range : AreInRange lengths) (rate : ℕ) where
+  abbrev first_at : OctetEndpoint
+  first_at = record (octet_endpoint c number) { way = flags way }
+
+  abbrev its : OctetEndpoint
+  its = circuit.happens (port.request (Assign tei)) (record (octet_endpoint c number) { way = flags way })
+
   abbrev ends : Ends c service tei 0 ranged (circuit.happens (port.request (Assign tei)) (record (octet_endpoint c number) { way = flags way }))
   ends = record {
-    ran = goes-on c start (port.request (Assign tei)) (All-nil (λ octet. octet < 256)) ran-start;
+    ran = ran-begun c ranged number tei way within;
     its = fresh_link;
-    stands = subst (λ s. StationStands c service tei 0 s (bare c service tei 0 ranged fresh_link)) (sym (asked-as (Assign tei) start [])) (answers service tei c ranged few number within).stands;
-    frames = subst (λ (p : Port). All (IsOwn c service tei 0 ranged) (frames_among p.items)) (sym port-is) (All-nil (IsOwn c service tei 0 ranged));
-    octets = subst (λ (p : Port). All AreOctets (frames_among p.items)) (sym port-is) (All-nil AreOctets);
+    stands = subst (λ s. StationStands c service tei 0 s (bare c service tei 0 ranged fresh_link)) (sym (asked-as (Assign tei) first_at [])) (answers service tei c ranged few number within).stands;
+    frames = subst (λ (p : Port). All (IsOwn c service tei 0 ranged) (frames_among p.items)) (sym (port-is c ranged number tei way within)) (All-nil (IsOwn c service tei 0 ranged));
+    octets = subst (λ (p : Port). All AreOctets (frames_among p.items)) (sym (port-is c ranged number tei way within)) (All-nil AreOctets);
   }
 
   pub end-begins : (M : ℕ) → EndOk c service tei 0 ranged lengths rate 0 M (endpoint c number lengths way tei)
@@ -74,18 +88,18 @@ module _ (c : Config) (service : Service) (tei number way : ℕ) (ranged : IsInR
     but = record {
       ends = ends;
       clock = stands-on (port.request (Assign tei)) (first c number lengths way) (record { within = within; ranged = in_range; in_order = tt; here = tt; timely = tt });
-      ours = ours-obeyed service tei number (stopped lengths) (octet_orders (answered (port.request (Assign tei)) start)) (subst (AreOurs service tei) (sym none-ordered) tt) tt;
-      lengths_are = lengths-stay number (stopped lengths) (octet_orders (answered (port.request (Assign tei)) start));
+      ours = ours-obeyed service tei number (stopped lengths) (octet_orders (answered (port.request (Assign tei)) first_at)) (subst (AreOurs service tei) (sym (none-ordered c ranged number tei way within)) tt) tt;
+      lengths_are = lengths-stay number (stopped lengths) (octet_orders (answered (port.request (Assign tei)) first_at));
       early = omega arith;
-      polls = sends-none c.n201 (is_of asks c) (0 + half c service tei 0 ranged) (port_of begun) port-is;
-      finals = sends-none c.n201 (is_of is_final c) M (port_of begun) port-is;
+      polls = sends-none c.n201 (is_of asks c) (0 + half c service tei 0 ranged) (port_of its) (port-is c ranged number tei way within);
+      finals = sends-none c.n201 (is_of is_final c) M (port_of its) (port-is c ranged number tei way within);
     };
     timer = λ m waits at_m. absurd (true≢false (sym waits));
   }
 
   pub counts-begin : Counts service tei way lengths rate c ranged 0 (endpoint c number lengths way tei)
   counts-begin = record {
-    given = ap (λ (p : Port). length p.given) port-is;
-    received = ap (λ (p : Port). length p.received) port-is;
-    way = ap length (asked-way (Assign tei) start) ∙ length-replicate way 0x7E;
+    given = ap (λ (p : Port). length p.given) (port-is c ranged number tei way within);
+    received = ap (λ (p : Port). length p.received) (port-is c ranged number tei way within);
+    way = ap length (way-is c ranged number tei way within) ∙ length-replicate way 0x7E;
   }

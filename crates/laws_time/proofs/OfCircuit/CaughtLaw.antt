@@ -1,9 +1,8 @@
 -- An end that enquired catches up: on a wire, and as it is seen on the circuit.
-use Rattle.laws_time.proofs.Vocabulary.{Bool, Clocked, Config, Established, Face, HasCaughtUp, IsFit, Line, LineTold, Link, LinkEndpoint, List, Option, Service, Setting, Some, State, StationStands, TimedEndpoint, TimerRecovery, Wire, [], ap, arith, confirmed, contents_at, false, indicated, length, refl, setting, state_at}
-use Rattle.laws_time.proofs.Vocabulary.{state_number, subst, sym, turned, ℕ, ◌∙◌, ◌∷◌, ◌≡◌, ◌≤◌}
+use Rattle.laws_time.proofs.Vocabulary.{Bool, Clocked, Config, Established, Face, HasCaughtUp, IsFit, Line, LineTold, Link, LinkEndpoint, List, Option, Service, Setting, Some, State, StationStands, TimedEndpoint, TimerRecovery, Wire, [], ap, arith, confirmed, contents_at, false, indicated, length, refl, setting, state_at, state_number, subst, sym, turned, ℕ, ◌∙◌, ◌∷◌, ◌≡◌, ◌≤◌}
 use Rattle.laws_wire.specs.Losing.{heard_in}
 use Rattle.laws_time.proofs.OfCircuit.ArrivAs.{heard_of}
-use Rattle.laws_time.proofs.OfCircuit.ArrivPath.{of_call, Path, talk-of}
+use Rattle.laws_time.proofs.OfCircuit.ArrivPath.{Path}
 use Rattle.laws_time.proofs.OfCircuit.ArrivBeat.{Same}
 use Rattle.laws_time.proofs.OfCircuit.ArrivTold.{contents-heard, contents_of}
 use Rattle.laws_time.proofs.OfCircuit.CaughtEnds.{Acknowledges, told-as-many, acknowledges-some, no-more, paid}
@@ -28,9 +27,9 @@ module _ (service : Service) (tei : ℕ) (c d : Config) (face : Face c d) (back 
   abbrev Up : Bool → ℕ → Wire → Type 0
   Up asks k w = UpWith service tei c d 0 0 past other (Owes asks k) w
 
-  pub goes-on : (asks : Bool) (k : ℕ) (f g : Wire) → {i j m n : ℕ} → Path of_call service tei i j m n f g → UpWith service tei c d 0 0 past other (Owes asks k) f → UpWith service tei c d 0 0 past other (Owes asks k) g
+  pub goes-on : (asks : Bool) (k : ℕ) (f g : Wire) → Path service tei f g → UpWith service tei c d 0 0 past other (Owes asks k) f → UpWith service tei c d 0 0 past other (Owes asks k) g
   goes-on asks k f g path h =
-      subst (Up asks k) path.leads (all-steps service tei c d 0 0 face back past other (Owes asks k) (owes-keeps asks k) (owed-keeps asks k) path.steps f (talk-of of_call service tei f g path) path.patient h)
+      subst (Up asks k) path.leads (all-steps service tei c d 0 0 face back past other (Owes asks k) (owes-keeps asks k) (owed-keeps asks k) path.steps f path.done path.patient h)
 
   abbrev pub Shows : ℕ → Wire → Type 0
   Shows k g = (n : ℕ) × Acknowledges service tei n g.near × (k ≤ n) × (n ≤ length (contents_of (heard_in g.far)))

@@ -1,6 +1,6 @@
 -- The end that calls asks at a time, and then the end that was called: as either end does.
 use Rattle.laws_time.proofs.Vocabulary.{Beat, Clocked, Enquires, GoesWell, HasCaughtUp, IsUp, Line, List, Some, TimedEndpoint, Wire, after, in_call, inr, loose-turned-up, map, refl, state_at, turned, ◌++◌, ◌≡◌, ◌⊎◌}
-use Rattle.laws_time.proofs.OfCircuit.ArrivPath.{of_call, path-turned}
+use Rattle.laws_time.proofs.OfCircuit.ArrivPath.{path-turned}
 use Rattle.laws_time.proofs.OfCircuit.ArrivRun.{Reached}
 use Rattle.laws_time.proofs.OfCircuit.CaughtLaw.{near_past, far_past, its, near-number, far-number, near-shows, far-shows, near-contents, far-contents}
 use Rattle.laws_time.proofs.OfCircuit.Turned.{turned_line, turned_beat, turned_world}
@@ -28,10 +28,10 @@ module _ (l : Line) (before bs more : List Beat) (b : Beat) (h : GoesWell l befo
   FarLater = side.Later l l.far l.near (its l h.fit).back (its l h.fit).face (far_past l h.fit) (near_past l h.fit) refl far_end near_end
 
   near-later : (f : Wire) (u : Clocked) → Pair l h.fit u → (r : Reached l h.fit f u) → NearLater u f r.f
-  near-later f u pair r = record { i = r.i; j = r.j; m = r.k; n = r.n; path = r.path; own_number = near-number l h.fit u pair r.f r.same; there_number = far-number l h.fit u pair r.f r.same; shows_it = near-shows l h.fit u pair r.f r.same }
+  near-later f u pair r = record { path = r.path; own_number = near-number l h.fit u pair r.f r.same; there_number = far-number l h.fit u pair r.f r.same; shows_it = near-shows l h.fit u pair r.f r.same }
 
   far-later : (f : Wire) (u : Clocked) → Pair l h.fit u → (r : Reached l h.fit f u) → FarLater u (turned f) (turned r.f)
-  far-later f u pair r = record { i = r.j; j = r.i; m = r.k; n = r.n; path = path-turned of_call l.service l.tei f r.f r.path; own_number = far-number l h.fit u pair r.f r.same; there_number = near-number l h.fit u pair r.f r.same; shows_it = far-shows l h.fit u pair r.f r.same }
+  far-later f u pair r = record { path = path-turned l.service l.tei f r.f r.path; own_number = far-number l h.fit u pair r.f r.same; there_number = near-number l h.fit u pair r.f r.same; shows_it = far-shows l h.fit u pair r.f r.same }
 
   near-parts : (done rest : List Beat) → done ++ rest ≡ more → (g : Wire) × (k : Wire) × NearLater (after l.rate done v) f g × NearLater (after l.rate rest (after l.rate done v)) g k
   near-parts done rest all =

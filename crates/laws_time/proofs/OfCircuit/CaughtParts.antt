@@ -1,11 +1,10 @@
 -- A call on the circuit up to a time, and from there on, part by part: on a wire of frames both links are up.
-use Rattle.laws_time.proofs.Vocabulary.{All, All-append, All-cons, All-head, All-nil, All-tail, AreAsked, AreClear, Beat, Clocked, Establish, GoesWell, IsIdle, IsOfLink, IsTalk, IsUp, Line, List, LooseUp, Option, Request, Some, [], after, all-left, all-right, ap, append_assoc, arith, beat, begins, calling, calls, errors_at, fold-append, front-none, in_call, inl, inr}
-use Rattle.laws_time.proofs.Vocabulary.{is_used_up, list_any, list_any-append, or_parts, refl, state_at, subst, sym, ℕ, ◌++◌, ◌∙◌, ◌∷◌, ◌≡◌, ◌⊎◌}
+use Rattle.laws_time.proofs.Vocabulary.{All, All-append, All-cons, All-head, All-nil, All-tail, AreAsked, AreClear, Beat, Clocked, Establish, GoesWell, IsIdle, IsOfLink, IsTalk, IsUp, Line, List, LooseUp, Option, Request, Some, [], after, all-left, all-right, ap, append_assoc, arith, beat, begins, calling, calls, errors_at, fold-append, front-none, in_call, inl, inr, is_used_up, list_any}
+use Rattle.laws_time.proofs.Vocabulary.{list_any-append, or_parts, refl, state_at, subst, sym, ℕ, ◌++◌, ◌∙◌, ◌∷◌, ◌≡◌, ◌⊎◌}
 use Rattle.laws_wire.specs.Losing.{heard_in}
-use Rattle.laws_time.proofs.OfCircuit.ArrivBeat.{put_at}
 use Rattle.laws_time.proofs.OfCircuit.ArrivBegan.{reached}
 use Rattle.laws_time.proofs.OfCircuit.ArrivFair.{codes, codes-append}
-use Rattle.laws_time.proofs.OfCircuit.ArrivPath.{of_call, path-none, talk-of}
+use Rattle.laws_time.proofs.OfCircuit.ArrivPath.{path-none}
 use Rattle.laws_time.proofs.OfCircuit.ArrivRun.{Reached, IsFairBoth, all-beats, all-of-link, fair-all}
 use Rattle.laws_time.proofs.OfCircuit.ArrivTold.{codes-heard}
 use Rattle.laws_time.proofs.OfCircuit.CaughtBegun.{both-up}
@@ -79,7 +78,7 @@ module _ (l : Line) (before bs more : List Beat) (b : Beat) (h : GoesWell l befo
     pub up-there : IsUp l (in_call l before b bs).near → LooseUp l.service l.tei l.near l.far 0 0 (near_past l h.fit) (far_past l h.fit) r.f
     up-there up =
         subst (λ f. codes (heard_in f.far) ≡ [] → (heard_in f.near ≡ [] → ⊥) → LooseUp l.service l.tei l.near l.far 0 0 (near_past l h.fit) (far_past l h.fit) f) r.path.leads
-        (both-up l.service l.near l.far l.near_line l.far_line l.tei r.path.steps h.fit.call (talk-of of_call l.service l.tei (calling l.service l.tei l.near l.near_line l.far l.far_line) r.f r.path) r.path.patient) quiet some
+        (both-up l.service l.near l.far l.near_line l.far_line l.tei r.path.steps h.fit.call r.path.done r.path.patient) quiet some
       where
         not-5 : (o : Option ℕ) → (o ≡ Some 7) ⊎ (o ≡ Some 8) → o ≡ Some 5 → ⊥
         not-5 o (inl seven) five = cc (sym seven ∙ five)
@@ -123,9 +122,9 @@ module _ (l : Line) (before bs more : List Beat) (b : Beat) (h : GoesWell l befo
     pub r-done : Reached l h.fit reached-w.f (after l.rate done (in_call l before b bs))
     r-done =
         all-beats l h.fit reached-w.f done w pair-w asked-done parts.0 (fair-all l.rate rest (after l.rate done w) fair-rest)
-        (record { i = 0; j = 0; k = 0; first = put_at w; n = 0; puts = omega arith; f = reached-w.f; path = path-none of_call l.service l.tei reached-w.f reached-w.f refl; same = reached-w.same })
+        (record { f = reached-w.f; path = path-none l.service l.tei reached-w.f reached-w.f refl; same = reached-w.same })
 
     pub r-rest : Reached l h.fit r-done.f (after l.rate rest (after l.rate done (in_call l before b bs)))
     r-rest =
         all-beats l h.fit r-done.f rest (after l.rate done w) pair-done asked-rest parts.1 fair-rest
-        (record { i = 0; j = 0; k = 0; first = put_at (after l.rate done w); n = 0; puts = omega arith; f = r-done.f; path = path-none of_call l.service l.tei r-done.f r-done.f refl; same = r-done.same })
+        (record { f = r-done.f; path = path-none l.service l.tei r-done.f r-done.f refl; same = r-done.same })

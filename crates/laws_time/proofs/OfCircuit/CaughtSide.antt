@@ -1,8 +1,7 @@
 -- An end asks at a time: it has caught up in the end, or asks all the time.
-use Rattle.laws_time.proofs.Vocabulary.{Beat, Bool, Clocked, Config, Face, HasCaughtUp, IsTrue, IsUp, Line, LineTold, LinkEndpoint, List, LooseUp, Some, State, StationStands, TimedEndpoint, Wire, [], after, ap, append_assoc, beat, contents_at, false, fold-append, inl, inr, is_multiple_frame, length, refl, state_at, arith}
-use Rattle.laws_time.proofs.Vocabulary.{state_number, subst, sym, true, ℕ, ◌++◌, ◌∙◌, ◌∷◌, ◌≡◌, ◌⊎◌}
+use Rattle.laws_time.proofs.Vocabulary.{Beat, Bool, Clocked, Config, Face, HasCaughtUp, IsTrue, IsUp, Line, LineTold, LinkEndpoint, List, LooseUp, Some, State, StationStands, TimedEndpoint, Wire, [], after, ap, append_assoc, arith, beat, contents_at, false, fold-append, inl, inr, is_multiple_frame, length, refl, state_at, state_number, subst, sym, true, ℕ, ◌++◌, ◌∙◌, ◌∷◌, ◌≡◌, ◌⊎◌}
 use Rattle.laws_wire.specs.Losing.{heard_in}
-use Rattle.laws_time.proofs.OfCircuit.ArrivPath.{of_call, Path}
+use Rattle.laws_time.proofs.OfCircuit.ArrivPath.{Path}
 use Rattle.laws_time.proofs.OfCircuit.ArrivTold.{contents_of}
 use Rattle.laws_time.proofs.OfCircuit.CaughtEnds.{owing, settled, told-as-many}
 use Rattle.laws_time.proofs.OfCircuit.CaughtLaw.{goes-on, shows, Shows, in-7, in-8, number-of}
@@ -16,11 +15,7 @@ up-in l a s is up = grind arith
 module _ (l : Line) (c d : Config) (face : Face c d) (back : Face d c) (past other : List LineTold) (none : contents_of other ≡ []) (own there : Clocked → TimedEndpoint) where
   -- What is known of the ends at a later time.
   pub record Later (u : Clocked) (f g : Wire) : Type 0 where
-    pub i : ℕ
-    pub j : ℕ
-    pub m : ℕ
-    pub n : ℕ
-    pub path : Path of_call l.service l.tei i j m n f g
+    pub path : Path l.service l.tei f g
     pub own_number : (x : LinkEndpoint) → StationStands c l.service l.tei 0 g.near x → state_at l (own u) ≡ Some (state_number x.link.state)
     pub there_number : (x : LinkEndpoint) → StationStands d l.service l.tei 0 g.far x → state_at l (there u) ≡ Some (state_number x.link.state)
     pub shows_it : (k : ℕ) (then : TimedEndpoint) → length (contents_at then) ≡ k → Shows l.service l.tei c d face back past other none k g → HasCaughtUp l then (there u) (own u)

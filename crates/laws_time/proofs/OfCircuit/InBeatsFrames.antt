@@ -1,16 +1,17 @@
 -- Without noise each frame that was put on the line is received so many beats later.
-use Rattle.laws_time.proofs.Vocabulary.{All, AreHeardWhole, Bool, Config, FramesComeInBeats, IsInRange, Item, List, OctetEndpoint, Port, [], after, after_flag, ap, append-nil, append_assoc, arith, begins, bits, bits-append, flag, flat_map, flat_map-append, framed, frames_among, heard_in, hears-append, item_text, left_of, length, length-append, length-bits, length-replicate, line_text, longest}
-use Rattle.laws_time.proofs.Vocabulary.{longest_text, nil_from_length, port_of, replicate, reverse_aux, room_for, subst, sym, ℕ, ◌*◌, ◌++◌, ◌+◌, ◌<◌, ◌∙◌, ◌∷◌, ◌≡◌, ◌≤◌}
+use Rattle.laws_time.proofs.Vocabulary.{All, AreHeardWhole, AreShort, Beat, Bool, CanCall, Clocked, Config, FramesComeInBeats, HasReceived, IsClean, IsInRange, IsTalk, Item, Line, List, OctetEndpoint, Port, [], after, after_flag, all-left, ap, append-nil, append_assoc, arith, begins, bits, bits-append, cases_lt, flag, flat_map, flat_map-append, framed, frames_among, frames_among-append}
+use Rattle.laws_time.proofs.Vocabulary.{heard-beyond, heard_in, hears-append, inl, inr, item_text, left_of, length, length-append, length-bits, length-replicate, line_text, longest, longest_text, nil_from_length, port_of, replicate, reverse_aux, room_for, subst, sym, ℕ, ◌*◌, ◌++◌, ◌+◌, ◌<◌, ◌∙◌, ◌∷◌, ◌≡◌, ◌≤◌, ◌⊎◌}
 use Rattle.model_bits.specs.Stream as stream
 use Rattle.model_bits.proofs.RoundTripPlaces.{hears}
-use Rattle.laws_time.proofs.OfCircuit.AgainLaw.{since-first, since-all, as-many, noisy-long}
-use Rattle.laws_time.proofs.OfCircuit.AgainRan.{EndAt, fine-at, both-begin, Grown, grown-all, beats-then}
+use Rattle.laws_time.proofs.OfCircuit.AgainLaw.{Since, since-first, since-all, noisy-long}
+use Rattle.laws_time.proofs.OfCircuit.AgainRan.{EndAt, fine-at, Both, both-begin, both-all, Grown, grown-all, beats-then}
 use Rattle.laws_time.proofs.OfCircuit.AgainText.{all-whole, whole-left, items-heard}
 use Rattle.laws_time.proofs.OfCircuit.AnsweredBits.{longer-begins}
-use Rattle.laws_time.proofs.OfCircuit.AnsweredClear.{heard-after, flags-before, begins-so}
+use Rattle.laws_time.proofs.OfCircuit.AnsweredClear.{heard-after, flags-before, begins-so, part-of, flags-silent}
 use Rattle.laws_time.proofs.OfCircuit.AnsweredPlace.{Comes}
-use Rattle.laws_time.proofs.OfCircuit.InBeatsShort.{all-small, left-few}
-use Rattle.laws_time.proofs.OfCircuit.Sender.{Fine}
+use Rattle.laws_time.proofs.OfCircuit.InBeatsShort.{all-small, frames-small, left-few}
+use Rattle.laws_time.proofs.OfCircuit.Joined.{Joined, put_at}
+use Rattle.laws_time.proofs.OfCircuit.Sender.{Fine, out}
 
 -- ---- of one port, which puts and gives more, so much is received
 
@@ -47,40 +48,127 @@ module _ (n201 m n : ℕ) (p q : Port) (fine_p : Fine n201 p) (fine : Fine n201 
 
 -- ---- from one end of the clocked circuit to the other, if there was no noise from the start on
 
-module _ (c d : Config) (ranged : IsInRange c) (way m n e j : ℕ) (w u ru : OctetEndpoint) (hw : EndAt c way n w) (hu : EndAt c way e u) (gu : EndAt d way e ru) (x : Comes way 0 (port_of u) u.way (port_of ru))
-    (g : Grown j (port_of w) (port_of u)) (enough : way + (n + longest m) ≤ e) (small : All (λ octets. length octets ≤ m + 4) (frames_among (port_of w).items)) where
-  none-noisy : (port_of ru).received ≡ x.as_sent
-  none-noisy = let few = x.few in let same = noisy-long c d way e 0 u ru hu gu x in x.received ∙ ap (λ b. b ++ x.as_sent) (nil_from_length x.noisy (omega (arith, few, same)))
+module _ (c d : Config) (ranged : IsInRange c) (way e : ℕ) (u ru : OctetEndpoint) (hu : EndAt c way e u) (gu : EndAt d way e ru) (x : Comes way 0 (port_of u) u.way (port_of ru)) where
+  -- What was sent was received, or is in transit.
+  pub all-sent : replicate way 0x7E ++ (port_of u).given ≡ (port_of ru).received ++ u.way
+  all-sent =
+      let few = x.few in let same = noisy-long c d way e 0 u ru hu gu x in
+      x.sent ∙ (λ i. (nil_from_length x.before (omega (arith, few)) i ++ x.as_sent) ++ u.way)
+      ∙ ap (λ os. os ++ u.way) (sym (x.received ∙ ap (λ b. b ++ x.as_sent) (nil_from_length x.noisy (omega (arith, few, same)))))
 
-  none-before : replicate way 0x7E ++ (port_of u).given ≡ x.as_sent ++ u.way
-  none-before = let few = x.few in x.sent ∙ ap (λ b. (b ++ x.as_sent) ++ u.way) (nil_from_length x.before (omega (arith, few)))
+  fine : Fine c.n201 (port_of u)
+  fine = fine-at c ranged way e u hu
+
+  flags-long : length {A = ℕ} (replicate way 0x7E) ≡ way
+  flags-long = length-replicate {A = ℕ} way 0x7E
 
   -- After the flags of the beginning what was given comes.
-  given : (given : List ℕ) × (x.as_sent ≡ replicate way 0x7E ++ given) × ((port_of u).given ≡ given ++ u.way)
-  given =
-      let few = x.few in let all = as-many c d way e 0 u ru hu gu x in let flags = length-replicate {A = ℕ} way 0x7E in
-      longer-begins (replicate way 0x7E) (port_of u).given x.as_sent u.way none-before (omega (arith, few, all, flags, enough))
+  given : way ≤ length (port_of ru).received → (given : List ℕ) × ((port_of ru).received ≡ replicate way 0x7E ++ given) × ((port_of u).given ≡ given ++ u.way)
+  given enough = let flags = flags-long in longer-begins (replicate way 0x7E) (port_of u).given (port_of ru).received u.way all-sent (omega (arith, enough, flags))
 
-  pub received-whole : (more : List stream.Event) × (heard_in c.n201 (port_of ru).received ≡ framed (frames_among (port_of w).items) ++ more)
-  received-whole =
-      let fine_w = fine-at c ranged way n w hw in let fine = fine-at c ranged way e u hu in
-      let few = x.few in let all = as-many c d way e 0 u ru hu gu x in let flags = length-replicate {A = ℕ} way 0x7E in
-      let long = ap length given.1 ∙ length-append (replicate way 0x7E) given.0 in let given_w = hw.given in
-      let h = heard-in-time c.n201 m j (port_of w) (port_of u) fine_w fine g given.0 u.way given.2 (left-few m (port_of w) fine_w.on.cut (all-small m (port_of w).items small))
-      (omega (arith, few, all, flags, long, given_w, enough)) in (
-        h.0,
-        ap (heard_in c.n201) (none-noisy ∙ given.1)
-            ∙ flags-before c.n201 way given.0 (begins-so c.n201 (port_of u).given given.0 u.way (left_of (port_of u)) (flat_map item_text (port_of u).items) (sym fine.sound.text.text) given.2) ∙ h.1,
-      )
+  heard-given : (x : List ℕ) → (port_of u).given ≡ x ++ u.way → heard_in c.n201 (replicate way 0x7E ++ x) ≡ heard_in c.n201 x
+  heard-given x is = flags-before c.n201 way x (begins-so c.n201 (port_of u).given x u.way (left_of (port_of u)) (flat_map item_text (port_of u).items) (sym fine.sound.text.text) is)
+
+  -- What is heard stands in what was put.
+  pub stands-there : (rest : List stream.Event) × (framed (frames_among (port_of u).items) ≡ heard_in c.n201 (port_of ru).received ++ rest)
+  stands-there = go (cases_lt (length (port_of ru).received) way)
+    where
+      go : (length (port_of ru).received < way) ⊎ (way ≤ length (port_of ru).received) → (rest : List stream.Event) × (framed (frames_among (port_of u).items) ≡ heard_in c.n201 (port_of ru).received ++ rest)
+      go (inl few) =
+          let received = (port_of ru).received in let flags = flags-long in
+          let x = longer-begins received u.way (replicate way 0x7E) (port_of u).given (sym all-sent) (omega (arith, few, flags)) in
+          let silent = ap (heard_in c.n201) (part-of way received x.0 x.1) ∙ flags-silent c.n201 (length received) in
+          (framed (frames_among (port_of u).items), ap (λ es. es ++ framed (frames_among (port_of u).items)) (sym silent))
+      go (inr many) =
+          let g = given many in
+          let o = out c.n201 (port_of u) fine in let beyond = heard-beyond c.n201 g.0 u.way in let H = heard_in c.n201 g.0 in (
+            beyond.0 ++ framed o.on_its_way,
+            o.heard ∙ ap (λ os. heard_in c.n201 os ++ framed o.on_its_way) g.2 ∙ ap (λ es. es ++ framed o.on_its_way) beyond.1 ∙ append_assoc H beyond.0 (framed o.on_its_way)
+                ∙ ap (λ es. es ++ (beyond.0 ++ framed o.on_its_way)) (sym (ap (heard_in c.n201) g.1 ∙ heard-given g.0 g.2)),
+          )
+
+  -- And all that was put so long ago is heard.
+  module _ (m n j : ℕ) (w : OctetEndpoint) (hw : EndAt c way n w) (g : Grown j (port_of w) (port_of u)) (enough : way + (n + longest m) ≤ e) (small : All (λ octets. length octets ≤ m + 4) (frames_among (port_of w).items)) where
+    pub received-whole : (more : List stream.Event) × (heard_in c.n201 (port_of ru).received ≡ framed (frames_among (port_of w).items) ++ more)
+    received-whole =
+        let fine_w = fine-at c ranged way n w hw in let all = gu.received in
+        let x = given (omega (arith, all, enough)) in
+        let flags = flags-long in let long = ap length x.1 ∙ length-append (replicate way 0x7E) x.0 in let given_w = hw.given in
+        let h = heard-in-time c.n201 m j (port_of w) (port_of u) fine_w fine g x.0 u.way x.2 (left-few m (port_of w) fine_w.on.cut (all-small m (port_of w).items small))
+        (omega (arith, all, flags, long, given_w, enough)) in
+        (h.0, ap (heard_in c.n201) x.1 ∙ heard-given x.0 x.2 ∙ h.1)
+
+module _ (l : Line) (can : CanCall l.near l.near_line l.far l.far_line l.tei) where
+  abbrev size : l.far.n201 ≡ l.near.n201
+  size = sym can.opposite.1
+
+  -- From any time on.
+  pub come-from : (m : ℕ) (bs : List Beat) → All (IsTalk l) bs → All IsClean bs → (w : Clocked) → Since l can 0 w → longest m + l.way ≤ length bs → AreShort m w.near → AreShort m w.far
+      → let u = after l.rate bs w in HasReceived l w.near u.far × HasReceived l w.far u.near
+  come-from m bs talk is_clean w at_w enough small small_far =
+      let u = after l.rate bs w in
+      let at_u = since-all l can 0 bs talk is_clean w at_w in
+      let g = grown-all l can bs talk w at_w.both in
+      let e = beats-then l.rate bs w in let long : l.way + (w.beats + longest m) ≤ u.beats = omega (arith, e, enough) in
+      let there = received-whole l.near l.far can.near.0 l.way u.beats u.near.at u.far.at at_u.both.near at_u.both.far at_u.there m w.beats (length bs) w.near.at at_w.both.near g.near long small in
+      let back = received-whole l.far l.near can.far.0 l.way u.beats u.far.at u.near.at at_u.both.far at_u.both.near at_u.back m w.beats (length bs) w.far.at at_w.both.far g.far long small_far in
+      (there, (back.0, ap (λ n. heard_in n (port_of u.near.at).received) (sym size) ∙ back.1))
+
+  -- Frames have as many octets as N201 says at most.
+  pub short-always : (w : Clocked) → Both l can w → AreShort l.near.n201 w.near × AreShort l.near.n201 w.far
+  short-always w h = (
+    frames-small l.near.n201 (port_of w.near.at).items (fine-at l.near can.near.0 l.way w.beats w.near.at h.near).sound.sizes,
+    subst (λ n. AreShort n w.far) size (frames-small l.far.n201 (port_of w.far.at).items (fine-at l.far can.far.0 l.way w.beats w.far.at h.far).sound.sizes),
+  )
+
+  -- Those that were put by some time are as short as those that were put later.
+  pub short-before : (m : ℕ) (bs : List Beat) → All (IsTalk l) bs → (w : Clocked) → Both l can w → let u = after l.rate bs w in AreShort m u.near → AreShort m u.far → AreShort m w.near × AreShort m w.far
+  short-before m bs talk w h small small_far =
+      let g = grown-all l can bs talk w h in (front (port_of w.near.at).items g.near.new (port_of (after l.rate bs w).near.at).items g.near.items small, front (port_of w.far.at).items g.far.new (port_of (after l.rate bs w).far.at).items g.far.items small_far)
+    where
+      front : (xs ys zs : List Item) → zs ≡ xs ++ ys → All (λ (octets : List ℕ). length octets ≤ m + 4) (frames_among zs) → All (λ (octets : List ℕ). length octets ≤ m + 4) (frames_among xs)
+      front xs ys zs is all = all-left (λ (octets : List ℕ). length octets ≤ m + 4) (frames_among xs) (frames_among ys) (subst (All (λ (octets : List ℕ). length octets ≤ m + 4)) (ap frames_among is ∙ frames_among-append xs ys) all)
+
+  -- Few bits are left then.
+  pub few-left : (m : ℕ) (w : Clocked) → Both l can w → AreShort m w.near → AreShort m w.far → (length (left_of (port_of w.near.at)) ≤ longest_text m) × (length (left_of (port_of w.far.at)) ≤ longest_text m)
+  few-left m w h small small_far = (
+    left-few m (port_of w.near.at) (fine-at l.near can.near.0 l.way w.beats w.near.at h.near).on.cut (all-small m (port_of w.near.at).items small),
+    left-few m (port_of w.far.at) (fine-at l.far can.far.0 l.way w.beats w.far.at h.far).on.cut (all-small m (port_of w.far.at).items small_far),
+  )
+
+  -- So each end puts something soon.
+  module _ (bs : List Beat) (talk : All (IsTalk l) bs) (w : Clocked) (h : Both l can w) where
+    pub near-puts : length (left_of (port_of w.near.at)) < 8 * length bs → put_at w.near.at < put_at (after l.rate bs w).near.at
+    near-puts few =
+        let u = after l.rate bs w in let k = both-all l can bs talk w h in
+        put-more l.near.n201 0 (length bs) (port_of w.near.at) (port_of u.near.at) (fine-at l.near can.near.0 l.way w.beats w.near.at h.near) (fine-at l.near can.near.0 l.way u.beats u.near.at k.near) (grown-all l can bs talk w h).near few
+
+    pub far-puts : length (left_of (port_of w.far.at)) < 8 * length bs → put_at w.far.at < put_at (after l.rate bs w).far.at
+    far-puts few =
+        let u = after l.rate bs w in let k = both-all l can bs talk w h in
+        put-more l.far.n201 0 (length bs) (port_of w.far.at) (port_of u.far.at) (fine-at l.far can.far.0 l.way w.beats w.far.at h.far) (fine-at l.far can.far.0 l.way u.beats u.far.at k.far) (grown-all l can bs talk w h).far few
+
+  -- What is received and in transit, if no frame is.
+  pub none-left : (w : Clocked) → Since l can 0 w → framed (frames_among (port_of w.near.at).items) ≡ heard_in l.near.n201 (port_of w.far.at).received → framed (frames_among (port_of w.far.at).items) ≡ heard_in l.near.n201 (port_of w.near.at).received
+      → Joined l.near.n201 l.way l.near l.far w.near.at w.far.at w.near.at.way w.far.at.way [] []
+  none-left w h near far = record {
+    near = h.both.near.ran;
+    far = h.both.far.ran;
+    goes = record {
+      given = all-sent l.near l.far can.near.0 l.way w.beats w.near.at w.far.at h.both.near h.both.far h.there;
+      are = near ∙ sym (append-nil (heard_in l.near.n201 (port_of w.far.at).received));
+      octets = h.both.near.octets;
+    };
+    comes = record {
+      given = all-sent l.far l.near can.far.0 l.way w.beats w.far.at w.near.at h.both.far h.both.near h.back;
+      are = far ∙ sym (append-nil (heard_in l.near.n201 (port_of w.near.at).received));
+      octets = h.both.far.octets;
+    };
+  }
+
+  pub since-begun : (bs : List Beat) → All (IsTalk l) bs → All IsClean bs → Since l can 0 (after l.rate bs (begins l))
+  since-begun bs talk is_clean = since-all l can 0 bs talk is_clean (begins l) (since-first l can (begins l) (both-begin l can))
 
 pub frames-come-in-beats : FramesComeInBeats
-frames-come-in-beats l b before bs m fit talk talk_bs clean_before is_clean = λ enough small small_far.
-    let w = after l.rate (b ∷ before) (begins l) in let u = after l.rate bs w in
-    let at_w = since-all l fit 0 (b ∷ before) talk clean_before (begins l) (since-first l fit (begins l) (both-begin l fit)) in
-    let at_u = since-all l fit 0 bs talk_bs is_clean w at_w in
-    let g = grown-all l fit bs talk_bs w at_w.both in
-    let e = beats-then l.rate bs w in let long : l.way + (w.beats + longest m) ≤ u.beats = omega (arith, e, enough) in
-    let back = received-whole l.far l.near fit.call.far.0 l.way m w.beats u.beats (length bs) w.far.at u.far.at u.near.at at_w.both.far at_u.both.far at_u.both.near at_u.back g.far long small_far in (
-      received-whole l.near l.far fit.call.near.0 l.way m w.beats u.beats (length bs) w.near.at u.near.at u.far.at at_w.both.near at_u.both.near at_u.both.far at_u.there g.near long small,
-      (back.0, ap (λ n. heard_in n (port_of u.near.at).received) fit.call.opposite.1 ∙ back.1),
-    )
+frames-come-in-beats l b before bs m fit talk talk_bs clean_before is_clean enough small small_far =
+    come-from l fit.call m bs talk_bs is_clean (after l.rate (b ∷ before) (begins l)) (since-begun l fit.call (b ∷ before) talk clean_before) enough small small_far

@@ -3,7 +3,7 @@ use Rattle.laws_time.proofs.Vocabulary.{All, All-append, All-cons, All-nil, Asks
 use Rattle.lapd_clock.specs.Timer.{Timer}
 use Rattle.laws_time.specs.circuit.WorkedInBeats.{talks}
 use Rattle.laws_time.proofs.OfCircuit.InBeats.{a-call-takes-beats}
-use Rattle.laws_time.proofs.OfCircuit.InBeatsRun.{plain-clean}
+use Rattle.laws_time.proofs.OfCircuit.Led.{plain-clean}
 use Rattle.laws_time.proofs.OfCircuit.InBeatsDue.{none-at-first}
 
 pub can : CanCall user 0 network 0 0

@@ -1,7 +1,7 @@
 -- A worked link is at rest, and T203 runs on: so after 72 beats more all is told that is granted then. And its SABME comes in nine beats.
-use Rattle.laws_time.proofs.Vocabulary.{All, All-cons, All-nil, AreInRange, AreOpposite, AreShort, AsksData, Beat, Begins, Call, Clocked, Config, Establish, Expiry, FrameEndpoint as Endpoint, HasReceived, IsAtRest, IsCalmSince, IsClean, IsOfLink, IsSoundCard as IsSound, IsTalk, IsToldSince, Item, List, RunsOn, Some, TimedEndpoint, [], after, ap, arith, as_frames, beat, begins, calls}
-use Rattle.laws_time.proofs.Vocabulary.{clean, config, control_of, distance_of, exchanged, fall_due, false, far_clock, frame, frames_among, frames_at, granted_in, header_of, idle, is_busy, its_line, length, line_of, longest, low_bits, map, most_turns, named, near_clock, network, own_frames_at, own_link, plain, port_of, reading as read_by, refl, replicate, rested, runs_until, seq, sound}
-use Rattle.laws_time.proofs.Vocabulary.{state_of, subst, suc, supervisory_of, sym, unnumbered_of, user, zero, ℕ, ◌*◌, ◌++◌, ◌+◌, ◌-◌, ◌<◌, ◌∙◌, ◌∷◌, ◌≡◌, ◌≤◌}
+use Rattle.laws_time.proofs.Vocabulary.{All, All-cons, All-nil, AreInRange, AreOpposite, AreShort, AsksData, Beat, Begins, Call, Clocked, Config, Establish, Expiry, FrameEndpoint as Endpoint, HasReceived, IsAtRest, IsCalmSince, IsClean, IsOfLink, IsSoundCard as IsSound, IsTalk, IsToldSince, Item, List, RunsOn, Some, TimedEndpoint, [], after, ap, arith, as_frames, begins, calls, clean, config}
+use Rattle.laws_time.proofs.Vocabulary.{control_of, distance_of, exchanged, fall_due, false, far_clock, frame, frames_among, frames_at, granted_in, header_of, idle, is_busy, its_line, length, line_of, longest, low_bits, map, most_turns, named, near_clock, network, own_frames_at, own_link, plain, port_of, reading as read_by, refl, replicate, rested, runs_until, seq, sound, state_of, subst, suc}
+use Rattle.laws_time.proofs.Vocabulary.{supervisory_of, sym, unnumbered_of, user, zero, ℕ, ◌*◌, ◌++◌, ◌+◌, ◌-◌, ◌<◌, ◌∙◌, ◌∷◌, ◌≡◌, ◌≤◌}
 use Rattle.lapd_frame.specs.Reading.{reading}
 use Rattle.model_teis.specs.network.Events as teis
 use Rattle.model_line.specs.Machine as lines
@@ -9,9 +9,9 @@ use Rattle.model_card.specs.ports.Card as ports
 use Rattle.model_bits.specs.Stream as stream
 use Rattle.laws_wire.specs.Facing.{Face, Speaks}
 use Rattle.laws_time.proofs.OfCircuit.InBeatsFrames.{frames-come-in-beats}
-use Rattle.laws_time.proofs.OfCircuit.InBeatsKept.{Kept, all-kept, first-kept}
+use Rattle.laws_time.proofs.OfCircuit.AgainRan.{Both, both-all, both-begin}
 use Rattle.laws_time.proofs.OfCircuit.InBeatsMet.{can, sends, asks-one}
-use Rattle.laws_time.proofs.OfCircuit.InBeatsRun.{plain-clean}
+use Rattle.laws_time.proofs.OfCircuit.Led.{plain-clean}
 use Rattle.laws_time.proofs.OfCircuit.Rested.{messages-come-in-time}
 
 in-range : AreInRange its_line.lengths
@@ -30,8 +30,8 @@ plain-talk : (n : ℕ) → All (IsTalk its_line) (replicate n plain)
 plain-talk zero = All-nil (IsTalk its_line)
 plain-talk (suc n) = All-cons (IsTalk its_line) plain (replicate n plain) (All-nil (IsOfLink Call 0), All-nil (IsOfLink Call 0)) (plain-talk n)
 
-kept : Kept its_line fit rested
-kept = all-kept its_line fit (replicate 19 plain) (plain-talk 19) (plain-clean 19) (beat 1 (begins its_line) rings) (first-kept its_line fit rings rings-talk (refl, refl))
+ends : Both its_line can rested
+ends = both-all its_line can (rings ∷ replicate 19 plain) (All-cons (IsTalk its_line) rings (replicate 19 plain) rings-talk (plain-talk 19)) (begins its_line) (both-begin its_line can)
 
 -- What is seen at the two ends.
 record AreSeen (s u : Endpoint) : Type 0 where
@@ -51,7 +51,7 @@ unfolding lines.after lines.answer lines.takes_slot exchanged read_by reading he
 far-seen = record { state = refl; free = refl; alone = refl; received = refl; acknowledged = refl; sent = refl }
 
 configs : (rested.near.at.card.card.config ≡ user) × (rested.far.at.card.card.config ≡ network)
-configs = (config user can.near.0 rested.near.at kept.sim.near.ran, config network can.far.0 rested.far.at kept.sim.far.ran)
+configs = (config user can.near.0 rested.near.at ends.near.ran, config network can.far.0 rested.far.at ends.far.ran)
 
 speaks : (c : Config) (s u : Endpoint) → IsSound s.card → s.card.config ≡ c → s.line < c.lines → AreSeen s u → Speaks Call 0 s u
 speaks c s u sound_card is within h = grind arith
@@ -59,8 +59,8 @@ speaks c s u sound_card is within h = grind arith
 faces : Face Call 0 (record { near = as_frames rested.near; far = as_frames rested.far })
 faces =
     let opposite = can.opposite in (
-      speaks user (as_frames rested.near) (as_frames rested.far) (sound user can.near.0 rested.near.at kept.sim.near.ran).card configs.0 kept.sim.near.ran.within near-seen,
-      speaks network (as_frames rested.far) (as_frames rested.near) (sound network can.far.0 rested.far.at kept.sim.far.ran).card configs.1 kept.sim.far.ran.within far-seen,
+      speaks user (as_frames rested.near) (as_frames rested.far) (sound user can.near.0 rested.near.at ends.near.ran).card configs.0 ends.near.ran.within near-seen,
+      speaks network (as_frames rested.far) (as_frames rested.near) (sound network can.far.0 rested.far.at ends.far.ran).card configs.1 ends.far.ran.within far-seen,
       subst (λ k. AreOpposite k rested.far.at.card.card.config) (sym configs.0) (subst (AreOpposite user) (sym configs.1) opposite),
     )
 

@@ -46,9 +46,6 @@ IsUntold ts = flat_map for_layer_3 ts ≡ []
 pub untold-parts : (ts us : List LineTold) → IsUntold (ts ++ us) → IsUntold ts × IsUntold us
 untold-parts ts us none = none-of-both (flat_map for_layer_3 ts) (flat_map for_layer_3 us) (sym (flat_map-append for_layer_3 ts us) ∙ none)
 
-in-4 : (s : State) → state_number s ≡ 4 → s ≡ TeiAssigned
-in-4 s is = grind arith
-
 -- An end that gives up is told so.
 given-up : (t : Terms) (its : LinkTimer) (l : Link) → state_number l.state ≡ 5 → state_number (after t (expired its) l).state ≡ 4 → IsUntold (said_by (links.course t (expired its) l)) → ⊥
 given-up t its l five four none = grind arith

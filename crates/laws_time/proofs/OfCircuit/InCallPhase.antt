@@ -1,12 +1,10 @@
 -- In a call on the circuit the end that calls rings, in state 5, and has heard nothing; or both ends are up.
-use Rattle.laws_time.proofs.Vocabulary.{Bool, Called, Clocked, Config, ControlFrame, Face, FrameEndpoint, Held, IsFit, IsInRange, IsInRangeTerms, IsUp, Line, LineTold, Link, LinkEndpoint, List, Parts, Service, Some, StationStands, StepAt, TimedEndpoint, WasTold, Wire, [], ap, calling, arith}
-use Rattle.laws_time.proofs.Vocabulary.{confirmed, data_told, doing, end, indicated, inl, inr, is_multiple_frame, its_sabme, length, line_at, link_in, map, patient-goes, refl, regranted, ringing, sabme, seeing, seen, setting, state_at, state_number, subst, sym, terms, true, true≢false, uncalled, ℕ, ◌++◌, ◌==◌}
-use Rattle.laws_time.proofs.Vocabulary.{◌∙◌, ◌∷◌, ◌≡◌, ◌⊎◌}
+use Rattle.laws_time.proofs.Vocabulary.{Bool, Called, Clocked, Config, ControlFrame, Face, FrameEndpoint, Held, IsFit, IsInRange, IsInRangeTerms, IsUp, Line, LineTold, Link, LinkEndpoint, List, Parts, Service, Some, StationStands, StepAt, TimedEndpoint, WasTold, Wire, [], ap, arith, calling, confirmed, data_told, doing, end, indicated, inl, inr, is_multiple_frame, its_sabme, length, line_at}
+use Rattle.laws_time.proofs.Vocabulary.{link_in, map, patient-goes, refl, regranted, ringing, sabme, seeing, seen, setting, state_at, state_number, subst, sym, terms, true, true≢false, uncalled, ℕ, ◌++◌, ◌==◌, ◌∙◌, ◌∷◌, ◌≡◌, ◌⊎◌}
 use Rattle.laws_wire.specs.Losing.{heard_in}
 use Rattle.laws_wire.proofs.Ringing.{Tries}
 use Rattle.laws_wire.proofs.UaLostRun as run
 use Rattle.laws_time.proofs.OfCircuit.ArrivAs.{station, heard_of}
-use Rattle.laws_time.proofs.OfCircuit.ArrivPath.{of_call, talk-of}
 use Rattle.laws_time.proofs.OfCircuit.ArrivRun.{Reached}
 use Rattle.laws_time.proofs.OfCircuit.Standing.{Ends}
 use Rattle.laws_time.proofs.OfCircuit.Under.{state-here}
@@ -72,7 +70,7 @@ module _ (l : Line) (fit : IsFit l) (w : Clocked) (pair : Pair l fit w) (r : Rea
   GoesTo f = run.Goes l.service l.tei l.near l.far 0 0 (setting l.service l.near l.far l.near_line l.far_line l.tei fit.call).face (setting l.service l.near l.far l.near_line l.far_line l.tei fit.call).back (setting l.service l.near l.far l.near_line l.far_line l.tei fit.call).near (setting l.service l.near l.far l.near_line l.far_line l.tei fit.call).far x f
 
   goes : GoesTo r.f
-  goes = subst GoesTo r.path.leads (patient-goes l.service l.near l.far l.near_line l.far_line l.tei r.path.steps fit.call (talk-of of_call l.service l.tei (calling l.service l.tei l.near l.near_line l.far l.far_line) r.f r.path) r.path.patient)
+  goes = subst GoesTo r.path.leads (patient-goes l.service l.near l.far l.near_line l.far_line l.tei r.path.steps fit.call r.path.done r.path.patient)
 
   near-heard : heard_in goes.v.near ≡ heard_of w.near.at.told
   near-heard = ap (λ (f : Wire). heard_in f.near) (sym goes.is) ∙ ap heard_in r.same.near_is ∙ r.same.near_heard

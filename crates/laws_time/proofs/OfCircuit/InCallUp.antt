@@ -13,7 +13,6 @@ use Rattle.laws_time.proofs.OfCircuit.InCallThrough.{t200-there, all-ring, rings
 use Rattle.laws_time.proofs.OfCircuit.InCallDue.{IsUntold}
 use Rattle.laws_time.proofs.OfCircuit.InTime.{pair-begins}
 use Rattle.laws_time.proofs.OfCircuit.LongEnough.{all-pairs, pair-then, clear-parts, Pair}
-use Rattle.laws_time.proofs.OfCircuit.Turned.{as_begins}
 use Rattle.laws_time.proofs.OfCircuit.AgainRan.{both-all, both-begin}
 
 -- Both ends are up, and were told so.
@@ -167,7 +166,7 @@ module _ (l : Line) (before noisy clean : List Beat) (b c : Beat) (nothing : All
         let in_5 = rang [] clean refl parts.1.2 p ts in
         let falls = t200-there l.near l.service l.tei k.near.0 l.lengths w.near p.near_ok.but.ends p.both.near_leads in_5 in
         let base = lost w.near.at in let other_base = lost w.far.at in
-        let y = first-ready l h.fit v pair-first (both-all l (as_begins l h.fit) first talk-first (begins l) (both-begin l (as_begins l h.fit))) c t is_clean (parts.1.0, parts.1.1, tt) in
+        let y = first-ready l h.fit v pair-first (both-all l h.fit.call first talk-first (begins l) (both-begin l h.fit.call)) c t is_clean (parts.1.0, parts.1.1, tt) in
         let cleans = All-tail IsClean c clean h.clean in
         let rest = grows-all l h.fit 5 establishment w.beats v.beats base other_base (omega arith) clean w y ts parts.1.2 cleans in
         let same : begun l first c ≡ w = fold-append (beat l.rate) (begins l) first (c ∷ []) in

@@ -17,12 +17,6 @@ use Rattle.laws_time.specs.circuit.LongEnough.{IsLongEnough, is_of}
 use Rattle.laws_time.proofs.OfCircuit.Turned.{fit-turned, turned_beat, turned_line, turned_world}
 
 -- A command with P=1 asks for an answer.
-or-true : (b : Bool) → (b || true) ≡ true
-or-true b = grind arith
-
-poll-asks : (command : Bool) (control : Control) → is_poll command control ≡ true → asks_frame command control ≡ true
-poll-asks command control is = grind arith
-
 of-asks : (c : Config) (octets : List ℕ) → is_of is_poll c octets ≡ true → is_of asks_frame c octets ≡ true
 of-asks c octets is = grind arith
 

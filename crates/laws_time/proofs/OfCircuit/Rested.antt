@@ -1,21 +1,21 @@
 -- From a link at rest T203 is the first timer that falls due, if T200 runs long enough. So all is told in so many beats.
-use Rattle.laws_time.proofs.Vocabulary.{All, All-append, All-head, All-nil, AsksData, Beat, Begins, Circuit, Clocked, Config, Expiry, FallsDueFirst, FrameEndpoint, IsAtRest, IsCalmSince, IsClean, IsInRange, IsTalk, IsTimedCard, Lengths, Line, Link, List, MessagesComeInTime, None, NoneFallsDue, Ran, Service, Some, T203FallsDueFirstSince, Talk, TimedEndpoint, Wire, [], after, all-left, all-right}
-use Rattle.laws_time.proofs.Vocabulary.{ap, arith, as_frames, as_wire, asked, begins, cases_lt, cond, config, due, false, inl, inr, is-established, is-sound, kept-up, length, length-append, length-replicate, line_at, longest, moment_of, most_turns, or_parts, owed, own_link, place_in, plain, recursion_from_All, refl, replicate, subst, suc, sym, terms_in_range, true, ℕ, ◌*◌, ◌++◌, ◌+◌, ◌/◌, ◌<◌}
+use Rattle.laws_time.proofs.Vocabulary.{All, All-append, All-head, AsksData, Beat, Begins, Clocked, Config, Established, Expiry, FallsDueFirst, FrameEndpoint, IsAtRest, IsCalmSince, IsClean, IsDataOf, IsInRange, IsTalk, IsTimedCard, Lengths, Line, Link, List, MessagesComeInTime, None, NoneFallsDue, Ran, Service, Some, T203FallsDueFirstSince, Talk, TimedEndpoint, Wire, [], after, all-left}
+use Rattle.laws_time.proofs.Vocabulary.{all-right, ap, arith, as_frames, asked, begins, cases_lt, cond, config, due, false, inl, inr, is-established, is-sound, kept-up, length, length-append, length-replicate, line_at, longest, moment_of, most_turns, or_parts, owed, own_link, place_in, plain, recursion_from_All, refl, replicate, subst, suc, sym, terms_in_range, true, ℕ, ◌*◌, ◌++◌, ◌+◌, ◌/◌, ◌<◌}
 use Rattle.laws_time.proofs.Vocabulary.{◌∙◌, ◌∷◌, ◌≡◌, ◌≤◌, ◌⊎◌}
 use Rattle.lapd_frame.specs.declared.timers.Timer.TheVariants as timers
 use Rattle.laws_wire.specs.Facing.{Speaks}
-use Rattle.laws_time.proofs.OfCircuit.AckedBeats.{Now, done, none-done, data-steps, Stands}
+use Rattle.laws_time.proofs.OfCircuit.AckedBeats.{Calm, Stands, led-calm, talks}
+use Rattle.laws_time.proofs.OfCircuit.AckedSides.{face}
+use Rattle.laws_time.proofs.OfCircuit.AgainLaw.{Since}
+use Rattle.laws_time.proofs.OfCircuit.InBeatsFrames.{since-begun}
+use Rattle.laws_time.proofs.OfCircuit.Led.{plain-asks, plain-clean}
 use Rattle.laws_time.proofs.OfCircuit.AckedLogs.{Log, relogged}
 use Rattle.laws_time.proofs.OfCircuit.AckedOn as on
-use Rattle.laws_time.proofs.OfCircuit.AckedRun.{EndHeld, OldAt, At, near-first, far-first, at-all, none-falls-due}
-use Rattle.laws_time.proofs.OfCircuit.AckedSides.{face, IsUpAt, up-stays}
+use Rattle.laws_time.proofs.OfCircuit.AckedRun.{EndHeld, IsUpAt, OldAt, At, none-calm, near-first, far-first, at-all, none-falls-due}
 use Rattle.laws_time.proofs.OfCircuit.AgainRan.{beats-then}
 use Rattle.laws_time.proofs.OfCircuit.Ends.{ends-are-timed-cards}
 use Rattle.laws_time.proofs.OfCircuit.InBeatsDue.{AreOnTime, all-on-time, AreKept, all-kept, begins-on-time, begins-kept}
-use Rattle.laws_time.proofs.OfCircuit.InBeatsKept.{Kept}
-use Rattle.laws_time.proofs.OfCircuit.InBeatsRest.{follows, same, messages-take-beats}
-use Rattle.laws_time.proofs.OfCircuit.InBeatsRun as run
-unfoldable use Rattle.laws_time.proofs.OfCircuit.InBeatsRun.{all_steps}
+use Rattle.laws_time.proofs.OfCircuit.InBeatsRest.{joined, messages-take-beats}
 use Rattle.laws_time.proofs.OfCircuit.RestedClock.{t200-none, t203-some, recent, all-late, lasts, enough-since}
 use Rattle.laws_time.proofs.OfCircuit.RestedOwn.{BothOwn, own-then}
 
@@ -48,11 +48,11 @@ module _ (l : Line) (fit : Begins l) (b : Beat) (before : List Beat) (talk : All
   abbrev r : Clocked
   r = after l.rate (b ∷ before) (begins l)
 
-  both : Kept l fit (after l.rate (b ∷ before) (begins l)) × BothOwn l fit (after l.rate (b ∷ before) (begins l))
-  both = own-then l fit b before talk clean_before
+  both : BothOwn l fit (after l.rate (b ∷ before) (begins l))
+  both = own-then l fit (b ∷ before) talk clean_before
 
-  abbrev v : Circuit
-  v = both.0.v
+  since : Since l fit.call 0 (after l.rate (b ∷ before) (begins l))
+  since = since-begun l fit.call (b ∷ before) talk clean_before
 
   abbrev g : Wire
   g = record { near = as_frames r.near; far = as_frames r.far }
@@ -71,8 +71,8 @@ module _ (l : Line) (fit : Begins l) (b : Beat) (before : List Beat) (talk : All
   up : UpNow g
   up =
       let z = kept-up l.service l.tei g rest.face in
-      let here = config l.near fit.call.near.0 r.near.at both.1.near.ends.ran in
-      let there = config l.far fit.call.far.0 r.far.at both.1.far.ends.ran in
+      let here = config l.near fit.call.near.0 r.near.at both.near.ends.ran in
+      let there = config l.far fit.call.far.0 r.far.at both.far.ends.ran in
       let w = relogged x y g in (
         z.0,
         z.1,
@@ -81,20 +81,19 @@ module _ (l : Line) (fit : Begins l) (b : Beat) (before : List Beat) (talk : All
         (x, y, z.4, z.5, subst (λ c. Talk l.service l.tei c l.far z.0 z.1 z.2 z.3 w z.4 z.5) here (subst (λ d. Talk l.service l.tei r.near.at.card.card.config d z.0 z.1 z.2 z.3 w z.4 z.5) there z.6)),
       )
 
-  up-as : UpNow (as_wire [] [] v)
-  up-as = subst UpNow (sym (same l fit r both.0 rest)) up
+  stands : Stands l fit r
+  stands = record { since = since; now = record { there = []; back = []; joined = joined l fit r since rest; weight = 0; on_wire = inr up } }
 
-  now : Now l fit v
-  now = record { there = []; back = []; follows = follows l fit r both.0 rest; weight = 0; on_wire = inr up-as }
+  is-up : IsUpAt l fit r
+  is-up = on.by-up l.service l.tei fit.call.terminal l.near l.far (face l fit false) (face l fit true) (terms_in_range l.near fit.call.near.0 l.service l.tei fit.call.terminal) (terms_in_range l.far fit.call.far.0 l.service l.tei fit.call.terminal) g up
 
-  stands : Stands l fit v
-  stands = record { now = now; long = both.0.long }
-
-  is-up : IsUpAt l fit v
-  is-up = grind (arith, on.by-up, face, terms_in_range, as_wire, up-as)
-
-  answered : (xs : List Beat) → All (AsksData l) xs → l.lengths.t200 ≤ (after l.rate xs r).beats / l.rate → IsUpAt l fit (done l fit xs v)
-  answered xs all late = up-stays l fit (all_steps xs) (data-steps l fit xs all) v now is-up
+  answered : (xs : List Beat) → Calm l fit xs r → l.lengths.t200 ≤ (after l.rate xs r).beats / l.rate → IsUpAt l fit (after l.rate xs r)
+  unfolding stands
+  answered xs calm late =
+      let x = led-calm l fit xs r stands.now calm in
+      subst (λ (f : Wire). (own_link l.service l.tei f.near).state ≡ Established) x.leads
+      (on.up-stays l.service l.tei fit.call.terminal l.near l.far (face l fit false) (face l fit true) (terms_in_range l.near fit.call.near.0 l.service l.tei fit.call.terminal) (terms_in_range l.far fit.call.far.0 l.service l.tei fit.call.terminal)
+      x.es (talks l fit r (after l.rate xs r) stands.now x) g 0 (inr up) is-up)
 
   -- ---- T200 of neither end runs, and T203 does
 
@@ -114,28 +113,28 @@ module _ (l : Line) (fit : Begins l) (b : Beat) (before : List Beat) (talk : All
   none-some : (m : ℕ) → None ≡ Some m → {X : Type 0} → X
   none-some m is = absurd (cc is)
 
-  near-held : EndHeld l fit false (OldAt l fit r v (length before) are stands false []) r.near
+  near-held : EndHeld l fit false (OldAt l fit r (length before) are stands false []) r.near
   near-held = record {
-    ran = both.1.near.ends.ran;
+    ran = both.near.ends.ran;
     lengths = soon.near.lengths;
-    here = both.1.near.here;
-    ours = both.1.near.ours;
+    here = both.near.here;
+    ours = both.near.ours;
     claim = λ m at_m. none-some m
-        (sym (rests l.service l.tei r.near (as_frames r.far) rest.face.0 rest.far.sent l.near fit.call.near.0 l.lengths both.1.near.ends.ran timed.0 both.1.near.ends.stands.speaks.placed) ∙ at_m);
+        (sym (rests l.service l.tei r.near (as_frames r.far) rest.face.0 rest.far.sent l.near fit.call.near.0 l.lengths both.near.ends.ran timed.0 both.near.ends.stands.speaks.placed) ∙ at_m);
   }
 
-  far-held : EndHeld l fit true (OldAt l fit r v (length before) are stands true []) r.far
+  far-held : EndHeld l fit true (OldAt l fit r (length before) are stands true []) r.far
   far-held = record {
-    ran = both.1.far.ends.ran;
+    ran = both.far.ends.ran;
     lengths = soon.far.lengths;
-    here = both.1.far.here;
-    ours = both.1.far.ours;
+    here = both.far.here;
+    ours = both.far.ours;
     claim = λ m at_m. none-some m
-        (sym (rests l.service l.tei r.far (as_frames r.near) rest.face.1 rest.near.sent l.far fit.call.far.0 l.far_lengths both.1.far.ends.ran timed.1 both.1.far.ends.stands.speaks.placed) ∙ at_m);
+        (sym (rests l.service l.tei r.far (as_frames r.near) rest.face.1 rest.near.sent l.far fit.call.far.0 l.far_lengths both.far.ends.ran timed.1 both.far.ends.stands.speaks.placed) ∙ at_m);
   }
 
-  at-rest : At l fit r v (length before) are stands []
-  at-rest = record { all = All-nil (AsksData l); sim = subst (run.Sim l fit.call.near.0 fit.call.far.0 r) (sym (none-done l fit v)) both.0.sim; near = near-held; far = far-held }
+  at-rest : At l fit r (length before) are stands []
+  at-rest = record { calm = none-calm l fit r; near = near-held; far = far-held }
 
   -- ---- so T203 is the first
 
@@ -147,15 +146,15 @@ module _ (l : Line) (fit : Begins l) (b : Beat) (before : List Beat) (talk : All
       none-due : All IsLate r.near.clock.running → All IsLate r.far.clock.running → NoneFallsDue l.rate bs r
       none-due late late_far =
           let limit = r.beats + length bs in
-          let n = goes l.service l.tei r.near (as_frames r.far) rest.face.0 rest.far.sent l.near fit.call.near.0 l.lengths both.1.near.ends.ran timed.0 both.1.near.ends.stands.speaks.placed in
-          let f = goes l.service l.tei r.far (as_frames r.near) rest.face.1 rest.near.sent l.far fit.call.far.0 l.far_lengths both.1.far.ends.ran timed.1 both.1.far.ends.stands.speaks.placed in
+          let n = goes l.service l.tei r.near (as_frames r.far) rest.face.0 rest.far.sent l.near fit.call.near.0 l.lengths both.near.ends.ran timed.0 both.near.ends.stands.speaks.placed in
+          let f = goes l.service l.tei r.far (as_frames r.near) rest.face.1 rest.near.sent l.far fit.call.far.0 l.far_lengths both.far.ends.ran timed.1 both.far.ends.stands.speaks.placed in
           let enough = enough-since limit l.rate r.near.at.line r.near.clock.now (timers.T203 l.service l.tei) l.lengths r.near.clock.running n.0 n.1 refl soon.near.running
           (recursion_from_All IsLate r.near.clock.running late) in
           let enough_far = enough-since limit l.rate r.far.at.line r.far.clock.now (timers.T203 l.service l.tei) l.far_lengths r.far.clock.running f.0 f.1 refl soon.far.running
           (recursion_from_All IsLate r.far.clock.running late_far) in
           let p = lasts limit l.rate r.near.clock.now l.lengths enough in
           let q = lasts limit l.rate r.far.clock.now l.far_lengths enough_far in
-          none-falls-due l fit r v (length before) are stands long long_far answered p q limit (λ now m late. late) (λ now m late. late) bs [] all clean_all at-rest on-time
+          none-falls-due l fit r (length before) are stands long long_far answered p q limit (λ now m late. late) (λ now m late. late) bs [] all clean_all at-rest on-time
           (record {
             near = record { running = all-late limit l.rate r.near.clock.running late; lengths = soon.near.lengths; since = omega arith };
             far = record { running = all-late limit l.rate r.far.clock.running late_far; lengths = soon.far.lengths; since = omega arith };
@@ -165,12 +164,12 @@ module _ (l : Line) (fit : Begins l) (b : Beat) (before : List Beat) (talk : All
       first-is : (c : Beat) → AsksData l c → IsClean c → (e : Expiry) → FallsDueFirst l bs r c e → e.timer ≡ timers.T203 l.service l.tei
       first-is c data_c clean_c e first = go first.now
         where
-          at-end : At l fit r v (length before) are stands bs
-          at-end = at-all l fit r v (length before) are stands long long_far answered bs [] all clean_all at-rest first.before
+          at-end : At l fit r (length before) are stands bs
+          at-end = at-all l fit r (length before) are stands long long_far answered bs [] all clean_all at-rest first.before
 
           go : (due (asked ((after l.rate bs r).beats / l.rate) c.near_asks (after l.rate bs r).near).clock ≡ Some e) ⊎ (due (asked ((after l.rate bs r).beats / l.rate) c.far_asks (after l.rate bs r).far).clock ≡ Some e) → e.timer ≡ timers.T203 l.service l.tei
-          go (inl near) = near-first l fit r v (length before) are stands bs at-end c data_c clean_c long long_far (answered bs all) e near
-          go (inr far) = far-first l fit r v (length before) are stands bs at-end c data_c clean_c long long_far (answered bs all) e far
+          go (inl near) = near-first l fit r (length before) are stands bs at-end c data_c long long_far (answered bs at-end.calm) e near
+          go (inr far) = far-first l fit r (length before) are stands bs at-end c data_c long long_far (answered bs at-end.calm) e far
 
 pub messages-come-in-time : MessagesComeInTime
 messages-come-in-time l b before bs n on = (none, messages-take-beats l b before bs n h.calm.begins h.talk h.calm.data_alone h.clean_before h.calm.are_clean h.rest none)
@@ -190,7 +189,7 @@ messages-come-in-time l b before bs n on = (none, messages-take-beats l b before
     none : NoneFallsDue l.rate (bs ++ replicate n plain) (after l.rate (b ∷ before) (begins l))
     none =
         none-due l h.calm.begins b before h.talk h.clean_before h.rest h.calm.t200.0 h.calm.t200.1 (bs ++ replicate n plain)
-        (All-append (AsksData l) bs (replicate n plain) h.calm.data_alone (run.plain-data l h.calm.begins.call.near.0 h.calm.begins.call.far.0 n)) (All-append IsClean bs (replicate n plain) h.calm.are_clean (run.plain-clean n))
+        (All-append (AsksData l) bs (replicate n plain) h.calm.data_alone (plain-asks (IsDataOf l) n)) (All-append IsClean bs (replicate n plain) h.calm.are_clean (plain-clean n))
         (longer r.near.clock.running on.t203.0) (longer r.far.clock.running on.t203.1)
 
 pub t203-falls-due-first-since : T203FallsDueFirstSince

@@ -1,16 +1,16 @@
 -- Beats without noise, in which anything of the link is asked for and timers fall due: at either end the link alone speaks, and its timers
 -- alone run.
-use Rattle.laws_time.proofs.Vocabulary.{All, All-head, All-tail, AllByRecursion, Beat, Begins, Clocked, Config, Expiry, Face, IsClean, IsInRange, IsOfLink, IsTalk, Line, List, None, OctetEndpoint as Endpoint, Option, Port, Request}
-use Rattle.laws_time.proofs.Vocabulary.{Service, Some, TimedEndpoint, Timer, [], after, answered, ap, append_assoc, asks, beat, begins, comes_to, due, faces, faces-back, falls, framed, frames_among, gained, arith}
-use Rattle.laws_time.proofs.Vocabulary.{gone, happens, heard_in, heard_with, hears, is_timer_of, octet_orders, option_to_list, own_side, port-after, port_of, refl, spelling, sym, true, unwrap_or, within-ports, without_first, without_first_octet, ℕ, ◌++◌, ◌/◌, ◌∙◌, ◌∷◌, ◌≡◌}
+use Rattle.laws_time.proofs.Vocabulary.{All, All-head, All-tail, AllByRecursion, Beat, Begins, Clocked, Config, Expiry, Face, IsClean, IsInRange, IsOfLink, IsTalk, Line, List, None, Option, Port, Request, Service, Some, TimedEndpoint, Timer, [], after, answered, ap, append_assoc, arith, asks, beat, begins, comes_to, due, faces, faces-back, falls, framed, frames_among, gained, gone, happens}
+use Rattle.laws_time.proofs.Vocabulary.{heard_in, heard_with, hears, is_timer_of, octet_orders, option_to_list, own_side, port-after, port_of, refl, spelling, sym, true, unwrap_or, within-ports, without_first, without_first_octet, ℕ, ◌++◌, ◌/◌, ◌∙◌, ◌∷◌, ◌≡◌}
 use Rattle.model_bits.specs.Stream as stream
 use Rattle.model_card.specs.ports.Port as port
 use Rattle.laws_order.specs.circuit.Circuit as circuit
 use Rattle.laws_time.proofs.OfCircuit.Ours.{of-link, of-timer, link-ours, expired-ours, pull-ours, octet-ours, IsTheirs}
 use Rattle.laws_time.proofs.OfCircuit.Began.{end-begins}
 use Rattle.laws_time.proofs.OfCircuit.Ends.{rest-of, first-of}
-use Rattle.laws_time.proofs.OfCircuit.InBeatsAs.{Twin, frames-plus}
-use Rattle.laws_time.proofs.OfCircuit.InBeatsKept.{Kept, one-kept, first-kept}
+use Rattle.laws_time.proofs.OfCircuit.AgainLaw.{Since, since-first, since-one}
+use Rattle.laws_time.proofs.OfCircuit.AgainRan.{beaten, both-begin}
+use Rattle.laws_time.proofs.OfCircuit.InBeatsFrames.{stands-there}
 use Rattle.laws_time.proofs.OfCircuit.Orders.{AreOurs, RunsOurs, ours-obeyed}
 use Rattle.laws_time.proofs.OfCircuit.Prompt.{all-obeyed}
 use Rattle.laws_time.proofs.OfCircuit.Standing.{Ends, IsOwn, bare, ends-asked, ends-expired, heard-none, heard-frame, pulls}
@@ -121,27 +121,23 @@ module _ (l : Line) (fit : Begins l) where
     pub near : Own l.service l.tei l.near l.far fit.call.near.0 fit.call.far.0 (faces l.near l.far fit.call.opposite) w.near
     pub far : Own l.service l.tei l.far l.near fit.call.far.0 fit.call.near.0 (faces-back l.near l.far fit.call.opposite) w.far
 
-  -- The frames that an end of the circuit without clocks has put are those of the clocked end.
-  same-frames : (c : Config) (s u : Endpoint) → Twin l.way c s u → frames_among (port_of u).items ≡ frames_among (port_of s).items
-  same-frames c s u h = ap (λ (p : Port). frames_among p.items) h.same.port ∙ frames-plus l.way (port_of s).items
-
-  own-beat : (b : Beat) → IsTalk l b → (w : Clocked) → BothOwn w → Kept l fit (beat l.rate w b) → BothOwn (beat l.rate w b)
-  own-beat b talk w own k =
-      let v = gone l.rate b w in
+  own-beat : (b : Beat) → IsTalk l b → (w : Clocked) → BothOwn w → Since l fit.call 0 (beat l.rate w b) → BothOwn (beat l.rate w b)
+  own-beat b talk w own s =
+      let v = gone l.rate b w in let u = beat l.rate w b in
       let moment = w.beats / l.rate in
       let n = own-gone l.service l.tei l.near l.far near far face moment b.near_asks talk.0 w.near own.near in
       let f = own-gone l.service l.tei l.far l.near far near back moment b.far_asks talk.1 w.far own.far in
-      let put = same-frames l.near (beat l.rate w b).near.at k.v.near k.sim.near ∙ ap frames_among (items-stay l.service l.tei l.near l.far near far face b.near_noise v.far.at.way v.near n) in
-      let put_far = same-frames l.far (beat l.rate w b).far.at k.v.far k.sim.far ∙ ap frames_among (items-stay l.service l.tei l.far l.near far near back b.far_noise v.near.at.way v.far f) in
-      let got = ap (λ (p : Port). heard_in l.near.n201 p.received ++ framed k.back) k.sim.near.same.port in
-      let got_far = ap (λ (p : Port). heard_in l.near.n201 p.received ++ framed k.there) k.sim.far.same.port in
+      let put = ap frames_among (items-stay l.service l.tei l.near l.far near far face b.near_noise v.far.at.way v.near n) in
+      let put_far = ap frames_among (items-stay l.service l.tei l.far l.near far near back b.far_noise v.near.at.way v.far f) in
+      let there = stands-there l.near l.far near l.way u.beats u.near.at u.far.at s.both.near s.both.far s.there in
+      let here = stands-there l.far l.near far l.way u.beats u.far.at u.near.at s.both.far s.both.near s.back in
       record {
         near = own-shorter l.service l.tei l.near l.far near far face (hears b.near_noise v.far.at.way v.near)
-            (own-hears l.service l.tei l.near l.far near far face b.near_noise v.far.at.way v.near n l.near.n201 refl (frames_among (port_of v.far.at).items) (framed k.back) f.ends.frames
-            (ap framed (sym put_far) ∙ k.follows.comes.are ∙ got));
+            (own-hears l.service l.tei l.near l.far near far face b.near_noise v.far.at.way v.near n l.far.n201 fit.call.opposite.1 (frames_among (port_of v.far.at).items) here.0 f.ends.frames
+            (ap framed (sym put_far) ∙ here.1));
         far = own-shorter l.service l.tei l.far l.near far near back (hears b.far_noise v.near.at.way v.far)
-            (own-hears l.service l.tei l.far l.near far near back b.far_noise v.near.at.way v.far f l.near.n201 (sym fit.call.opposite.1) (frames_among (port_of v.near.at).items) (framed k.there) n.ends.frames
-            (ap framed (sym put) ∙ k.follows.goes.are ∙ got_far));
+            (own-hears l.service l.tei l.far l.near far near back b.far_noise v.near.at.way v.far f l.near.n201 (sym fit.call.opposite.1) (frames_among (port_of v.near.at).items) there.0 n.ends.frames
+            (ap framed (sym put) ∙ there.1));
       }
 
   own-begins : BothOwn (begins l)
@@ -150,16 +146,13 @@ module _ (l : Line) (fit : Begins l) where
       let f = end-begins l.far l.service l.tei l.far_line l.way far fit.call.far.1 fit.call.terminal l.far_lengths fit.lengths.1 l.rate 0 in
       record { near = record { ends = n.but.ends; here = n.but.clock.here; ours = n.but.ours }; far = record { ends = f.but.ends; here = f.but.clock.here; ours = f.but.ours } }
 
-  own-all : (bs : List Beat) → All (IsTalk l) bs → All IsClean bs → (w : Clocked) → Kept l fit w → BothOwn w → Kept l fit (after l.rate bs w) × BothOwn (after l.rate bs w)
-  own-all [] talk is_clean w k own = (k, own)
-  own-all (b ∷ bs) talk is_clean w k own =
+  own-all : (bs : List Beat) → All (IsTalk l) bs → All IsClean bs → (w : Clocked) → Since l fit.call 0 w → BothOwn w → BothOwn (after l.rate bs w)
+  own-all [] talk is_clean w s own = own
+  own-all (b ∷ bs) talk is_clean w s own =
       let t = All-head (IsTalk l) b bs talk in
-      let then = one-kept l fit b t (All-head IsClean b bs is_clean) w k in
+      let then = since-one l fit.call 0 w b s (beaten l fit.call w b t s.both) (All-head IsClean b bs is_clean) in
       own-all bs (All-tail (IsTalk l) b bs talk) (All-tail IsClean b bs is_clean) (beat l.rate w b) then (own-beat b t w own then)
 
   -- So it is after any such beats.
-  pub own-then : (b : Beat) (before : List Beat) → All (IsTalk l) (b ∷ before) → All IsClean (b ∷ before) → Kept l fit (after l.rate (b ∷ before) (begins l)) × BothOwn (after l.rate (b ∷ before) (begins l))
-  own-then b before talk is_clean =
-      let t = All-head (IsTalk l) b before talk in
-      let first = first-kept l fit b t (All-head IsClean b before is_clean) in
-      own-all before (All-tail (IsTalk l) b before talk) (All-tail IsClean b before is_clean) (beat l.rate (begins l) b) first (own-beat b t (begins l) own-begins first)
+  pub own-then : (bs : List Beat) → All (IsTalk l) bs → All IsClean bs → BothOwn (after l.rate bs (begins l))
+  own-then bs talk is_clean = own-all bs talk is_clean (begins l) (since-first l fit.call (begins l) (both-begin l fit.call)) own-begins

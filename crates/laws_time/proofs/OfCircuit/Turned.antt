@@ -1,5 +1,5 @@
 -- The circuit from the other side: the two ends are exchanged.
-use Rattle.laws_time.proofs.Vocabulary.{All, All-cons, All-head, All-nil, All-tail, AreClear, Beat, Begins, Clocked, IsClean, IsClearAt, IsFit, IsTalk, Line, List, [], after, answered_in, ap, arith, beat, gone, length, longest, map, refl, sides-turned, subst, suc, sym, ℕ, ◌∷◌, ◌≡◌}
+use Rattle.laws_time.proofs.Vocabulary.{All, All-cons, All-head, All-nil, All-tail, AreClear, Beat, Clocked, IsClean, IsClearAt, IsFit, IsTalk, Line, List, [], after, answered_in, ap, arith, beat, gone, length, longest, map, refl, sides-turned, subst, suc, sym, ℕ, ◌∷◌, ◌≡◌}
 
 abbrev pub turned_line : Line → Line
 turned_line l =
@@ -14,10 +14,6 @@ turned_world w = record { near = w.far; far = w.near; beats = w.beats }
 pub after-turned : (rate : ℕ) (bs : List Beat) (w : Clocked) → after rate (map turned_beat bs) (turned_world w) ≡ turned_world (after rate bs w)
 after-turned rate [] w = refl
 after-turned rate (b ∷ bs) w = after-turned rate bs (beat rate w b)
-
--- Such a line begins.
-abbrev pub as_begins : (l : Line) → IsFit l → Begins l
-as_begins l fit = record { call = fit.call; some = fit.some; lengths = fit.lengths }
 
 module _ (l : Line) (fit : IsFit l) where
   pub longest-same : longest l.near.n201 ≡ longest l.far.n201

@@ -29,7 +29,7 @@ use Rattle.lapd_c.specs.declared.card.CardHandle.{CardHandle}
 use Rattle.lapd_c.specs.declared.plain.reports.PlainReport.{PlainReport}
 use Rattle.lapd_c.specs.Answers.{ShowsAnswer}
 use Rattle.lapd_c.specs.Asked.{next_with_room}
-use Rattle.lapd_c.specs.CardSlots.{HeldCard}
+use Rattle.lapd_c.specs.Slots.{HeldCard}
 use Rattle.lapd_c.specs.Frames.{goes, next_at}
 use Rattle.lapd_c.specs.Reports.{ShowsPull}
 use Rattle.lapd_c.specs.CalledBy.{Asked, Called, Happening, inside, IsCallOf, Served, ShowsGiven, Unchanged, why_in, why_refused}

@@ -32,7 +32,7 @@ use Rattle.lapd_c.specs.Answers.{ShowsAnswer, ShowsReply}
 use Rattle.lapd_c.specs.CalledBy.{Asked, Called, Happening, Served, ShowsGiven, inside, at_port, why_in, why_refused}
 use Rattle.lapd_c.specs.Calls.{HasBegun, fresh}
 use Rattle.lapd_c.specs.CallsServed.{CallIsServed, CallsAreServed, FallIsServed, IsAt, IsDone, IsRefused, Tells, is_of}
-use Rattle.lapd_c.specs.CardSlots.{HeldCard}
+use Rattle.lapd_c.specs.Slots.{HeldCard}
 use Rattle.lapd_c.specs.Cards.{HandleStands, StandsIn, card_of, without_marks}
 use Rattle.lapd_c.specs.Config.{config_in}
 use Rattle.lapd_c.specs.FallsDue.{FellDue}

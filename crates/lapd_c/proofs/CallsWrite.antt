@@ -22,7 +22,7 @@ use Rattle.model_card.specs.Card.{Card}
 use Rattle.model_line.specs.declared.config.Config.{Config}
 use Rattle.lapd_c.specs.CallsWrite.{CallsWrite, HasNothing}
 use Rattle.lapd_c.specs.Answers.{octet_of}
-use Rattle.lapd_c.specs.CardSlots.{HeldCard}
+use Rattle.lapd_c.specs.Slots.{HeldCard}
 use Rattle.lapd_c.specs.Cards.{card_of, marks_held, served_card, StandsIn}
 use Rattle.lapd_c.specs.Calls.{HasBegun, IsTimedStart, fresh}
 use Rattle.lapd_c.specs.Config.{config_fault, config_in}

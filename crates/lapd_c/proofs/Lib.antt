@@ -3,8 +3,7 @@
 pub mod Vocabulary
 pub mod Machine
 pub mod Places
-pub mod ClockPlaces
-pub mod CardPlaces
+pub mod SlotPlaces
 pub mod Contents
 pub mod WholeFrames
 pub mod Served

@@ -38,7 +38,7 @@ use Rattle.lapd_c.proofs.FramesComing.{coming}
 use Rattle.lapd_c.specs.QuestionWords.{begun_frame_of, begun_of, heard_frame_of, in_front, link_counters_at, link_counters_of, or_status, room_at, room_of, room_told, state_of, waiting_from}
 use Rattle.lapd_c.specs.Changed.{changed_at, changed_of}
 use Rattle.lapd_timed.specs.declared.card_timers.CardTimers.{CardTimers}
-use Rattle.lapd_c.specs.CardSlots.{HeldCard}
+use Rattle.lapd_c.specs.Slots.{HeldCard}
 use Rattle.lapd_c.specs.Cards.{StandsIn}
 use Rattle.lapd_c.specs.Kept.{ChangesStandIn, timers_held}
 use Rattle.lapd_c.specs.ChangesAnswered.{ChangesAreAnswered, number_in}

@@ -24,11 +24,10 @@ use Rattle.model_link.specs.declared.rooms.Room.{Room}
 use Rattle.std.proofs.Math.Nat.{mul-le-mul_left}
 use Rattle.lapd_c.specs.declared.card.CardHandle.{CardHandle}
 use Rattle.lapd_c.specs.declared.link_marks.LinkMarks.{LinkMarks}
-use Rattle.lapd_c.specs.CardSlots.{HeldCard}
+use Rattle.lapd_c.specs.Slots.{HeldCard, HeldClock}
 use Rattle.lapd_c.specs.Cards.{card_of, marks_at, marks_held, HandleStands, StandsIn}
 use Rattle.lapd_c.specs.ClockImages as clock_image
 use Rattle.lapd_c.specs.ClockImages.{IsClockRestore, IsSavedAs}
-use Rattle.lapd_c.specs.ClockSlots.{HeldClock}
 use Rattle.lapd_c.specs.Clocks.{clock_of}
 use Rattle.lapd_c.specs.Config.{config_in}
 use Rattle.lapd_c.specs.Kept.{timers_held}

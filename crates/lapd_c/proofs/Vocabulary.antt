@@ -2,7 +2,7 @@
 pub use Rattle.std.proofs.Common.{Bool, cond, IfOk, IfSome, IsSome, List, None, Ok, Option, Result, [], ap, arith, drop, false, inl, inr, length, lit<, nat_lt, not, refl, subst, suc, sym, true, ℕ, ◌&&◌, ◌*◌, ◌++◌, ◌+◌, ◌-◌, ◌<◌, ◌∙◌, ◌∷◌, ◌≡◌, ◌≤◌}
 pub use Rattle.std.proofs.lemmas.Bool.{and_parts, cases_lt, eqb-true, false≢true, leb-true, ltb-false}
 pub use Rattle.std.proofs.lemmas.Option.{none-some}
-pub use Rattle.std.proofs.raw_atomic.Walks.{leaves, proved_at}
+pub use Rattle.std.proofs.raw_atomic.Walks.{leaves, proved, proved_at}
 pub use Rattle.std.specs.Prelude.{option_map}
 pub use Rattle.std.specs.Option.{option_map_or, option_or}
 pub use Rattle.std.specs.contracts.impls.GlobalAllocator.TheImpl.{ghosts}
@@ -16,9 +16,8 @@ pub use Rattle.core.proofs.alloc.Shapes.{after}
 pub use Rattle.core.proofs.atomic.Steps.{fm}
 pub use Rattle.core.proofs.cell.Inside.{Good, one}
 pub use Rattle.core.specs.declared.alloc.Allocator.{Ghosts}
-pub use Rattle.lapd_c.specs.CardSlots.{HeldCard, card_owns, card_row}
+pub use Rattle.lapd_c.specs.Slots.{HeldCard, HeldClock, card_row, clock_row, heap, slot_owns}
 pub use Rattle.lapd_c.specs.Answers.{ShowsAnswer, ShowsReply}
-pub use Rattle.lapd_c.specs.ClockSlots.{HeldClock, clock_owns, heap}
 pub use Rattle.lapd_c.specs.Exchange.{answer_after, card_after, tells_nothing, step_event, with_step}
 unfoldable pub use Rattle.lapd_c.specs.Exchange.{AllQuiet, given_after, steps_made}
 pub use Rattle.lapd_c.specs.Frames.{frame_comes, goes, next_at}

@@ -16,7 +16,7 @@ use Rattle.lapd_c.specs.declared.card.CardHandle.{CardHandle}
 use Rattle.lapd_c.specs.declared.kept.KeptCard.{KeptCard}
 use Rattle.lapd_c.specs.declared.plain.config.PlainConfig.{PlainConfig}
 use Rattle.lapd_c.specs.declared.plain.timers.PlainLengths.{PlainLengths}
-use Rattle.lapd_c.specs.CardSlots.{HeldCard}
+use Rattle.lapd_c.specs.Slots.{HeldCard}
 use Rattle.lapd_c.specs.Cards.{card_of, IsHandle}
 use Rattle.lapd_c.specs.Config.{config_fault, config_in}
 use Rattle.lapd_c.specs.Kept.{is_timed, timers_of, ChangesStandIn, TimersStandIn}

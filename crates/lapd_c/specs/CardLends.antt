@@ -6,7 +6,7 @@ use Rattle.lapd_c.specs.declared.card_slot.CardSlot.{CardSlot}
 use Rattle.lapd_c.specs.declared.kept.KeptCard.{KeptCard}
 use Rattle.lapd_c.specs.contracts.card.CardHandle as handle
 use Rattle.lapd_c.specs.contracts.card_slot.CardSlot as slot
-use Rattle.lapd_c.specs.CardSlots.{card_row}
+use Rattle.lapd_c.specs.Slots.{card_row}
 
 abbrev pub with_card : CardSlot → KeptCard → CardSlot
 with_card s c = record s { card = Some c }

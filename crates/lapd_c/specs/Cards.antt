@@ -6,7 +6,7 @@ use Rattle.lapd_c.specs.declared.card.CardHandle.{CardHandle}
 use Rattle.lapd_c.specs.declared.kept.KeptCard.{KeptCard}
 use Rattle.lapd_card.specs.declared.kinds.AnyCard.{AnyCard}
 use Rattle.lapd_c.specs.declared.link_marks.LinkMarks.{LinkMarks}
-use Rattle.lapd_c.specs.CardSlots.{HeldCard}
+use Rattle.lapd_c.specs.Slots.{HeldCard}
 use Rattle.lapd_card.specs.Kinds.{kind_of, Machine, with_ports, alone, AnyStands}
 use Rattle.model_card.specs.declared.kinds.CardKind.{CardKind}
 

@@ -4,7 +4,7 @@ use Rattle.lapd_clock.specs.Image.{image, most_octets, AreItsTimers, IsNoImage, 
 use Rattle.lapd_clock.specs.Timers.{Timers}
 use Rattle.lapd_clock.specs.declared.clock.line.Held.{Held}
 use Rattle.lapd_c.specs.declared.clock.ClockHandle.{ClockHandle}
-use Rattle.lapd_c.specs.ClockSlots.{HeldClock}
+use Rattle.lapd_c.specs.Slots.{HeldClock}
 use Rattle.lapd_c.specs.Clocks.{clock_of, IsClockCall, IsHandle}
 use Rattle.lapd_c.specs.Saves.{save_status, IsFault, StandsInFront}
 use Rattle.lapd_c.specs.Statuses as status

@@ -10,7 +10,7 @@ use Rattle.lapd_c.specs.declared.plain.config.PlainConfig.{PlainConfig}
 use Rattle.lapd_c.specs.declared.plain.timers.PlainDue.{PlainDue}
 use Rattle.lapd_c.specs.Timers.{plain_timer}
 use Rattle.lapd_c.specs.declared.clock.ClockHandle.{ClockHandle}
-use Rattle.lapd_c.specs.ClockSlots.{HeldClock}
+use Rattle.lapd_c.specs.Slots.{HeldClock}
 
 -- The clock that is there, or none.
 abbrev pub clock_of : ClockHandle → HeldClock

@@ -8,7 +8,7 @@ use Rattle.model_card.specs.ports.Card.{OctetCard}
 use Rattle.model_card.specs.ports.Event as octets
 use Rattle.lapd_card.specs.Stands.{meaning_counted}
 use Rattle.lapd_c.specs.declared.card.CardHandle.{CardHandle}
-use Rattle.lapd_c.specs.CardSlots.{HeldCard}
+use Rattle.lapd_c.specs.Slots.{HeldCard}
 use Rattle.lapd_c.specs.Cards.{card_of}
 use Rattle.lapd_card.specs.Kinds.{counters_of}
 

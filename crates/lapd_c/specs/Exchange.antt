@@ -20,7 +20,7 @@ use Rattle.model_card.specs.ports.Run.{meant_all}
 use Rattle.lapd_c.specs.declared.card.CardHandle.{CardHandle}
 use Rattle.lapd_c.specs.Answers.{ShowsReply, octet_of}
 use Rattle.lapd_c.specs.Cards.{card_of}
-use Rattle.lapd_c.specs.CardSlots.{HeldCard}
+use Rattle.lapd_c.specs.Slots.{HeldCard}
 use Rattle.lapd_c.specs.Counted.{counters_at}
 use Rattle.lapd_c.specs.Kept.{NoteAll, ObeysAll, is_timed, reply_seen_by}
 use Rattle.lapd_c.specs.Reports.{Shows, contents_or_none}

@@ -23,7 +23,7 @@ use Rattle.lapd_timed.specs.declared.card_timers.CardTimers.{CardTimers}
 use Rattle.lapd_c.specs.declared.card.CardHandle.{CardHandle}
 use Rattle.lapd_c.specs.declared.kept.KeptCard.{KeptCard}
 use Rattle.lapd_c.specs.declared.plain.reports.PlainReport.{PlainReport}
-use Rattle.lapd_c.specs.CardSlots.{HeldCard}
+use Rattle.lapd_c.specs.Slots.{HeldCard}
 use Rattle.lapd_c.specs.Cards.{card_of}
 use Rattle.lapd_c.specs.LinkMarks.{MarksBecome, marks_of}
 use Rattle.lapd_c.specs.Reopened.{IsFirstOpen, TellsReopened, waits_on, with_reopened}

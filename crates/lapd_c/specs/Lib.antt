@@ -14,14 +14,13 @@ pub mod Reports
 pub mod Answers
 pub mod Counters
 pub mod CountersPlaced
-pub mod ClockSlots
+pub mod Slots
 pub mod Clocks
 pub mod ClockLends
 pub mod LinkMarks
 pub mod RefusedLines
 pub mod Reopened
 pub mod WorkedReopened
-pub mod CardSlots
 pub mod Cards
 pub mod CardLends
 pub mod Kept

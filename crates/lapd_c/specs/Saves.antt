@@ -10,7 +10,7 @@ use Rattle.model_image.specs.Sound.{IsSaved}
 use Rattle.lapd_c.specs.declared.card.CardHandle.{CardHandle}
 use Rattle.lapd_c.specs.declared.kept.KeptCard.{KeptCard}
 use Rattle.lapd_c.specs.declared.plain.config.PlainConfig.{PlainConfig}
-use Rattle.lapd_c.specs.CardSlots.{HeldCard}
+use Rattle.lapd_c.specs.Slots.{HeldCard}
 use Rattle.lapd_c.specs.Cards.{card_of, HandleStands, IsHandle}
 use Rattle.lapd_c.specs.Config.{config_fault, config_in}
 use Rattle.lapd_c.specs.Kept.{is_timed}

@@ -1,8 +1,9 @@
 //! The place of a card in memory.
 
 ghost use Rattle.std.specs.Borrow.{sem};
+ghost use Rattle.std.specs.Coded.{coded_option};
 ghost use Rattle.std.specs.Prelude.{◌≡◌, None, Some, IsSome};
-ghost use Rattle.lapd_c.specs.CardSlots.{card_owns, HeldCard, held_card_code};
+ghost use Rattle.lapd_c.specs.Slots.{HeldCard, card_row, slot_owns};
 
 use crate::kept::KeptCard;
 use crate::loose::Loose;
@@ -14,11 +15,11 @@ use std::ptr::null_mut;
 #[repr(C)]
 pub struct CardSlot {
     at: *mut u8,
-    ghost card: { HeldCard } by { held_card_code },
+    ghost card: { HeldCard } by { coded_option card_row.coded },
 }
 
 impl Model for CardSlot {
-    ghost also_owns = { λ slot. card_owns slot.at slot.card };
+    ghost also_owns = { λ slot. slot_owns card_row slot.at slot.card };
 }
 
 impl CardSlot {

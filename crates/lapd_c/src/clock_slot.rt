@@ -1,8 +1,9 @@
 //! The place of a clock in memory.
 
 ghost use Rattle.std.specs.Borrow.{sem};
+ghost use Rattle.std.specs.Coded.{coded_option};
 ghost use Rattle.std.specs.Prelude.{◌≡◌, None, Some, IsSome};
-ghost use Rattle.lapd_c.specs.ClockSlots.{clock_owns, HeldClock, held_clock_code};
+ghost use Rattle.lapd_c.specs.Slots.{HeldClock, clock_row, slot_owns};
 
 use crate::loose::Loose;
 use lapd_clock::Clock;
@@ -14,11 +15,11 @@ use std::ptr::null_mut;
 #[repr(C)]
 pub struct ClockSlot {
     at: *mut u8,
-    ghost clock: { HeldClock } by { held_clock_code },
+    ghost clock: { HeldClock } by { coded_option clock_row.coded },
 }
 
 impl Model for ClockSlot {
-    ghost also_owns = { λ slot. clock_owns slot.at slot.clock };
+    ghost also_owns = { λ slot. slot_owns clock_row slot.at slot.clock };
 }
 
 impl ClockSlot {

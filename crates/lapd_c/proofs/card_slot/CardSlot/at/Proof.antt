@@ -4,9 +4,8 @@ use Rattle.lapd_c.proofs.Machine.{ !, Goes-dropped, RattleType, SProp, Stays, Va
 use Rattle.lapd_c.proofs.Machine.{yes, ‵, ◌$◌, ◌∵◌, ◌⊛◌}
 use Rattle.std.specs.contracts.alloc.Global as heap
 use Rattle.std.proofs.alloc.Global.TheLaws as heap_laws
+use Rattle.lapd_c.proofs.SlotPlaces.{word, slot_made}
 use Rattle.lapd_c.proofs.Places.{two, Place, two_good, place_opens}
-use Rattle.lapd_c.proofs.ClockPlaces.{word}
-use Rattle.lapd_c.proofs.CardPlaces.{slot_made}
 use Rattle.lapd_c.specs.contracts.card_slot.CardSlot.at as f
 use Rattle.lapd_c.proofs.card_slot.CardSlot.at.Statement.{statement}
 use Rattle.lapd_c.proofs.card_slot.CardSlot.at.Code as code
@@ -29,6 +28,6 @@ at_spec 𝓤 𝓛 𝓜 𝓡 wired =
     sets ! (of_opd ! (get_in ! (fld ! refl (stop !)) (sub ! 0 refl (whole !)))) refl (tt, tt) $
     sets ! (of_opd ! (get ! refl)) refl (tt, tt) $
     sets ! (agg ! (and_then ! (get ! refl) (no_more !))) refl (tt, (tt, tt)) $
-    slot_made ! b o v.value $ use0 𝓛 (raw (fact 𝓤 (kept ≡ kept))) (fact_i 𝓤 (kept ≡ kept) (emp 𝓤) refl) $ nothing ! $ nothing ! $ fjoin ! $
+    slot_made card_row ! b o v.value $ use0 𝓛 (raw (fact 𝓤 (kept ≡ kept))) (fact_i 𝓤 (kept ≡ kept) (emp 𝓤) refl) $ nothing ! $ nothing ! $ fjoin ! $
     returns ! (look_at ! 0 refl) $ free_all ! refl $ keep ! (5 ∷ 0 ∷ 2 ∷ 1 ∷ []) $
     by ! (leaves 𝓛 f.ended stays c z (word (vptr b o)) (record { at = block_ptr b o; card = kept }) (tt, tt) (tt, tt)))))

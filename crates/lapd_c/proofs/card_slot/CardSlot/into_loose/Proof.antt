@@ -5,9 +5,8 @@ use Rattle.lapd_c.proofs.Machine.{use0, vptr, walk_of, whole, yes, ‵, ◌$◌,
 use Rattle.std.specs.contracts.alloc.Global as heap
 use Rattle.std.proofs.alloc.Global.TheLaws as heap_laws
 use Rattle.lapd_c.specs.contracts.card_slot.CardSlot as slot
+use Rattle.lapd_c.proofs.SlotPlaces.{word, slot_opens}
 use Rattle.lapd_c.proofs.Places.{two, two_good, place_made}
-use Rattle.lapd_c.proofs.ClockPlaces.{word}
-use Rattle.lapd_c.proofs.CardPlaces.{slot_opens}
 use Rattle.lapd_c.specs.contracts.card_slot.CardSlot.into_loose as f
 use Rattle.lapd_c.proofs.card_slot.CardSlot.into_loose.Statement.{statement}
 use Rattle.lapd_c.proofs.card_slot.CardSlot.into_loose.Code as code
@@ -25,7 +24,7 @@ into_loose_spec 𝓤 𝓛 𝓜 𝓡 wired =
     let given = raw (alive 𝓛 f.signature κs qs) ⊛ ‵ (owns (types_at f.signature.params κs) z.0.3 z.0.4) in
     qed 𝓛 (given ∷ raw (fact 𝓤 (IsSome v.card)) ∷ []) ∵ move ! (1 ∷ []) $ heard ! (IsSome v.card) (λ is. split ! $ move ! (1 ∷ []) $ fsplit3 ! $
     rewrite ! 1 (λ (us : List Val). ‵ (Z.own_val a us)) h.1 refl $
-    slot_opens ! v z.0.4.0 is (λ b o x _ held ws.
+    slot_opens card_row ! v.at v.card z.0.4.0 is (λ b o x _ held ws.
     let s : Val = word (vptr b o) in let typed = two_good R Z LZ ghosts b o h.0 h.2 in
     suffices ! (Run (s ∷ h.0 ∷ [])) (subst (λ (us : List Val). ent 𝓤 (Run (s ∷ h.0 ∷ [])) (Run us)) (sym (λ i. ws i ++ (h.1 i ++ []))) (id⊢ 𝓤 (Run (s ∷ h.0 ∷ [])))) $
     enter ! 𝓣.C 𝓣.Λ fn (s ∷ h.0 ∷ []) Post $ alloc_all ! (λ l. pass_all ! refl ((tt, (tt, tt)), (h.2, tt)) $

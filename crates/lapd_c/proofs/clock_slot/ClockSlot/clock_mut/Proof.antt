@@ -1,26 +1,9 @@
 -- The clock is lent where it lies, and its place follows it.
-use Rattle.lapd_c.proofs.Vocabulary.{◌≡◌, ℕ, List, [], ◌∷◌, IsSome, refl, sym, after, ghosts, Some, Timers, heap}
-use Rattle.lapd_c.proofs.Machine.{ !, Stays, Val, alloc_all, at_ret, await, bare, block_ptr, enter, env, ent, exec, blocks, fact, first, fjoin, flft, fld, fpack, free_all, fsep, fsplit, fsplit3, ftrue, get, heard, join, keep, later, lone, look_at, move, no, nothing, of_opd, pass_all, pick, plain, qed, raw, returns, rewrite, sem, sets, some, split, split3, stay_dropped, stop, sub, suffices, tables}
-use Rattle.lapd_c.proofs.Machine.{use1, vptr, walk_of, whole, ‵, ◌$◌, ◌∵◌, ◌⊛◌}
-use base.Fml.{GName, Fml}
-use base.Fraction.{full_share}
-use base.Logic.{sep}
-use seplogic.Ra.Ura.{Ura}
-use types.Logic.{Logic}
-use mir.Syntax.{named}
-use types.Kit.{done, frame, group}
-use types.Part.{look_in}
-use types.Run.{addr, load}
-use types.ByLocal.{sets_last, through}
-use denote.Follow.{follows, lends_Part}
-use denote.Memory.{cell_at, mem, part_at, part_of}
-use denote.Ref.{MutRef, mut_Tells, mut_vals}
-use denote.Signature.{mut_ref_to}
-use denote.Steps.{opens}
-use denote.Triple.Walked.{Goes-spent_ref, ends_at, says}
-use Rattle.std.proofs.raw_atomic.Walks.{proved}
-use Rattle.lapd_c.proofs.ClockPlaces.{word, slot_made, slot_opens}
-use Rattle.lapd_clock.specs.contracts.clock.Clock as clock
+use Rattle.lapd_c.proofs.Vocabulary.{◌≡◌, ℕ, List, [], ◌∷◌, IsSome, refl, sym, after, ghosts, Some, Timers, heap, proved, clock_row}
+use Rattle.lapd_c.proofs.Machine.{ !, Fml, GName, Goes-spent_ref, Logic, MutRef, Stays, Ura, Val, addr, alloc_all, at_ret, await, bare, block_ptr, blocks, cell_at, done, ends_at, ent, enter, env, exec, fact, first, fjoin, fld, flft, follows, fpack, frame, free_all, fsep, fsplit, fsplit3, ftrue, full_share, get, group, heard, join, keep, later, lends_Part, load, lone, look_at, look_in, mem, move}
+use Rattle.lapd_c.proofs.Machine.{mut_Tells, mut_ref_to, mut_vals, named, no, nothing, of_opd, opens, part_at, pass_all, pick, plain, qed, raw, returns, rewrite, says, sem, sep, sets, sets_last, some, split, split3, stay_dropped, stop, sub, suffices, tables, through, use1, vptr, walk_of, whole, ‵, ◌$◌, ◌∵◌, ◌⊛◌}
+use denote.Memory.{part_of}
+use Rattle.lapd_c.proofs.SlotPlaces.{word, slot_made, slot_opens}
 use Rattle.lapd_c.specs.ClockLends.{with_clock}
 use Rattle.lapd_c.specs.contracts.clock_slot.ClockSlot as slot
 use Rattle.lapd_c.specs.contracts.clock_slot.ClockSlot.clock_mut as f
@@ -33,13 +16,13 @@ stayed = (stay_dropped (mut_ref_to (0 ∷ []) tt (plain (λ _. slot.the_row))) n
 module _ (h : slot.the_row.Denot) (b o b' o' : ℕ) where
   -- all but the clock: the right to free its block, and the slot's own cell
   abbrev Rest : Fml
-  Rest = fsep (ghosts.dealloc_token heap (bare (lone clock.the_row.mir)) (block_ptr b' o')) (cell_at full_share slot.the_row.mir (word (vptr b' o') ∷ []) b o)
+  Rest = fsep (ghosts.dealloc_token heap (bare (lone clock_row.mir)) (block_ptr b' o')) (cell_at full_share slot.the_row.mir (word (vptr b' o') ∷ []) b o)
 
   back : {M : Type 1} {𝓤 : Ura M} (𝓛 : Logic 𝓤) → h.at ≡ block_ptr b' o' → (w : Timers)
-      → ent 𝓤 (sep 𝓤 (sem 𝓛 ((mem clock.the_row).own_at w b' o')) (sem 𝓛 Rest)) (sem 𝓛 ((mem slot.the_row).own_at (with_clock h w) b o))
+      → ent 𝓤 (sep 𝓤 (sem 𝓛 ((mem clock_row).own_at w b' o')) (sem 𝓛 Rest)) (sem 𝓛 ((mem slot.the_row).own_at (with_clock h w) b o))
   unfolding part_of
   back 𝓛 there w =
-      qed 𝓛 (‵ (part_at clock.the_row full_share w b' o') ∷ ‵ Rest ∷ []) ∵ move ! (1 ∷ []) $ fsplit ! $ move ! (2 ∷ 0 ∷ []) $ fjoin ! $ slot_made ! b' o' w $
+      qed 𝓛 (‵ (part_at clock_row full_share w b' o') ∷ ‵ Rest ∷ []) ∵ move ! (1 ∷ []) $ fsplit ! $ move ! (2 ∷ 0 ∷ []) $ fjoin ! $ slot_made clock_row ! b' o' w $
       rewrite ! 0 (λ p. ‵ (slot.the_row.own_val (record { at = p; clock = Some w }) (word (vptr b' o') ∷ []))) (sym there) refl $ move ! (1 ∷ 0 ∷ []) $ fjoin ! $
       fpack ! (List Val) (λ us. fsep (cell_at full_share slot.the_row.mir us b o) (slot.the_row.own_val (with_clock h w) us)) (word (vptr b' o') ∷ []) $ done !
 
@@ -54,15 +37,15 @@ clock_mut_spec 𝓤 𝓛 𝓜 𝓡 wired =
     qed 𝓛 (((‵ (flft κ q) ⊛ ‵ ftrue) ⊛ ‵ ((MutRef (named 0) κ S).own_val a.0 vs) ⊛ ‵ ftrue) ∷ raw (fact 𝓤 (IsSome h.clock)) ∷ []) ∵
     move ! (1 ∷ []) $ heard ! (IsSome h.clock) (λ is. split ! $ split ! $ move ! (2 ∷ []) $ split ! $ keep ! (0 ∷ 2 ∷ []) $
     enter ! _ _ _ _ _ $ alloc_all ! (λ l. pass_all ! refl ((tt, tt), tt) $
-    fsplit3 ! $ move ! (1 ∷ 2 ∷ 3 ∷ []) $ opens ! tt S b o (λ us. move ! (1 ∷ []) $ slot_opens ! h us is (λ b' o' x there held ws.
+    fsplit3 ! $ move ! (1 ∷ 2 ∷ 3 ∷ []) $ opens ! tt S b o (λ us. move ! (1 ∷ []) $ slot_opens clock_row ! h.at h.clock us is (λ b' o' x there held ws.
     rewrite ! 1 (λ (ws : List Val). ‵ (cell_at full_share S.mir ws b o)) ws refl $ fsplit ! $
     -- [the clock; the right to free it; the slot's cell; the open borrow; obs; auth]
     first ! $ blocks ! $ sets ! (of_opd ! (load ! (through ! refl (fld ! refl (stop !))) (look_in ! 2 (sub ! 0 refl (whole !))))) refl (tt, tt) $
     sets ! (of_opd ! (get ! refl)) refl (tt, tt) $ sets_last ! (addr ! (through ! refl (stop !))) refl (tt, tt) $
     exec ! 𝓣.C 𝓣.Λ (env code.Mir.locals l) (after 1 code.function.body) (at_ret _ (W.post y)) $ sets ! (of_opd ! (get ! refl)) refl (tt, tt) $
     move ! (1 ∷ 2 ∷ []) $ fjoin ! $ move ! (2 ∷ 3 ∷ 4 ∷ 1 ∷ 0 ∷ []) $ group ! 5 $
-    use1 𝓛 (later (some (λ (γ' : GName). ‵ ((MutRef (named 0) κ clock.the_row).own_val (record { ref_ptr = (b', o'); ghost_name = γ'; now = x }) (vptr b' o' ∷ [])) ⊛ ‵ (flft κ q) ⊛ ‵ (follows S clock.the_row γ γ' (with_clock h)))))
-    (lends_Part 𝓛 S clock.the_row (with_clock h) (named 0) κ q b o b' o' γ (sem 𝓛 (Rest h b o b' o')) (back h b o b' o' 𝓛 there) (S.coded.code h) (S.coded.code h) x) $ await ! tt $ pick ! (λ γ'. split3 ! $
+    use1 𝓛 (later (some (λ (γ' : GName). ‵ ((MutRef (named 0) κ clock_row).own_val (record { ref_ptr = (b', o'); ghost_name = γ'; now = x }) (vptr b' o' ∷ [])) ⊛ ‵ (flft κ q) ⊛ ‵ (follows S clock_row γ γ' (with_clock h)))))
+    (lends_Part 𝓛 S clock_row (with_clock h) (named 0) κ q b o b' o' γ (sem 𝓛 (Rest h b o b' o')) (back h b o b' o' 𝓛 there) (S.coded.code h) (S.coded.code h) x) $ await ! tt $ pick ! (λ γ'. split3 ! $
     returns ! (look_at ! 0 refl) $ free_all ! refl $ keep ! (0 ∷ 1 ∷ 2 ∷ []) $
     suffices ! _ (ends_at 𝓛 f.ended stayed c y (vptr b' o') (record { ref_ptr = (b', o'); ghost_name = γ'; now = x }) (tt, tt) (tt, tt)) $
     nothing ! $ nothing ! $ fjoin ! $ join ! $ nothing ! $ move ! (2 ∷ 0 ∷ []) $ join ! $ join ! $ frame ! $ says ! held $ done !))))))

@@ -1,13 +1,12 @@
 -- The word and the allocator stand side by side.
-use Rattle.lapd_c.proofs.Vocabulary.{◌≡◌, List, [], ◌∷◌, ◌++◌, IsSome, refl, sym, subst, one, ghosts, Some, proved_at, leaves}
+use Rattle.lapd_c.proofs.Vocabulary.{◌≡◌, List, [], ◌∷◌, ◌++◌, IsSome, refl, sym, subst, one, ghosts, Some, proved_at, leaves, clock_row}
 use Rattle.lapd_c.proofs.Machine.{ !, Goes-dropped, RattleType, SProp, Stays, Val, WpFn, agg, alive, alloc_all, and_then, block_ptr, by, emp, ent, enter, fact, fact_i, fjoin, fld, free_all, fsplit3, get, get_in, heard, id⊢, keep, layout, look_at, move, no_more, nothing, of_opd, owns, pass_all, plain, qed, raw, returns, rewrite, sets, split, stay_dropped, stop, sub, suffices, tables, types_at}
 use Rattle.lapd_c.proofs.Machine.{use0, vptr, walk_of, whole, yes, ‵, ◌$◌, ◌∵◌, ◌⊛◌}
 use Rattle.std.specs.contracts.alloc.Global as heap
 use Rattle.std.proofs.alloc.Global.TheLaws as heap_laws
-use Rattle.lapd_clock.specs.contracts.clock.Clock as clock
 use Rattle.lapd_c.specs.contracts.clock_slot.ClockSlot as slot
+use Rattle.lapd_c.proofs.SlotPlaces.{word, slot_opens}
 use Rattle.lapd_c.proofs.Places.{two, two_good, place_made}
-use Rattle.lapd_c.proofs.ClockPlaces.{word, slot_opens}
 use Rattle.lapd_c.specs.contracts.clock_slot.ClockSlot.into_loose as f
 use Rattle.lapd_c.proofs.clock_slot.ClockSlot.into_loose.Statement.{statement}
 use Rattle.lapd_c.proofs.clock_slot.ClockSlot.into_loose.Code as code
@@ -15,7 +14,7 @@ use Rattle.lapd_c.proofs.clock_slot.ClockSlot.into_loose.Code as code
 pub into_loose_spec : {M : Type 1} → statement M
 into_loose_spec 𝓤 𝓛 𝓜 𝓡 wired =
     let H = 𝓛.H in let 𝓣 = tables 𝓤 H 𝓜 𝓡 𝓡.env in let c = f.clauses 𝓛 𝓜.mem 𝓡.returns in let fn = code.function in
-    let R : RattleType = clock.the_row in let Z : RattleType = heap.the_row in let LZ = heap_laws.the_row_laws in
+    let R : RattleType = clock_row in let Z : RattleType = heap.the_row in let LZ = heap_laws.the_row_laws in
     let stays : Stays f.ended.signature.params f.ended.kept = (stay_dropped (plain (λ _. slot.the_row)) yes, (stay_dropped (plain (λ _. Z)) yes, tt)) in
     proved_at 𝓛 f.ended stays c 𝓜 𝓡 (Goes-dropped 𝓛 0 (plain (λ _. slot.the_row)) yes (λ κs x w. refl), (Goes-dropped 𝓛 0 (plain (λ _. Z)) yes (λ κs x w. refl), tt))
     f.Key.name fn (code.unfolded 𝓤 H 𝓜 𝓡 wired) (λ z are.
@@ -25,7 +24,7 @@ into_loose_spec 𝓤 𝓛 𝓜 𝓡 wired =
     let given = raw (alive 𝓛 f.signature κs qs) ⊛ ‵ (owns (types_at f.signature.params κs) z.0.3 z.0.4) in
     qed 𝓛 (given ∷ raw (fact 𝓤 (IsSome v.clock)) ∷ []) ∵ move ! (1 ∷ []) $ heard ! (IsSome v.clock) (λ is. split ! $ move ! (1 ∷ []) $ fsplit3 ! $
     rewrite ! 1 (λ (us : List Val). ‵ (Z.own_val a us)) h.1 refl $
-    slot_opens ! v z.0.4.0 is (λ b o x _ held ws.
+    slot_opens clock_row ! v.at v.clock z.0.4.0 is (λ b o x _ held ws.
     let s : Val = word (vptr b o) in let typed = two_good R Z LZ ghosts b o h.0 h.2 in
     suffices ! (Run (s ∷ h.0 ∷ [])) (subst (λ (us : List Val). ent 𝓤 (Run (s ∷ h.0 ∷ [])) (Run us)) (sym (λ i. ws i ++ (h.1 i ++ []))) (id⊢ 𝓤 (Run (s ∷ h.0 ∷ [])))) $
     enter ! 𝓣.C 𝓣.Λ fn (s ∷ h.0 ∷ []) Post $ alloc_all ! (λ l. pass_all ! refl ((tt, (tt, tt)), (h.2, tt)) $

@@ -1,13 +1,13 @@
 -- A request of a line: what its arms say as one refusal, and what the line makes of it.
 use Rattle.lapd_line.proofs.Vocabulary.{◌≡◌, ℕ, Bool, true, false, List, [], ◌∷◌, ◌++◌, Option, Some, None, Result, IfErr, OnOk, refl, sym, ap, subst, ◌∙◌, cond, Refusal, Service, Owned, Store, Config, told, after, answer, unless_refused, unless_refused_told, Aim, of_aim, Row, first_that_holds, bad_tei, bad_tei_or_group, no_link, no_link_nor_group, wrong_state, too_long, queue_full}
-use Rattle.lapd_line.proofs.Vocabulary.{unit_queue_full, pool_full, refusal, Request, request_of, Establish, Release, Data, Unit, Assign, Remove, Check, Disown, AskTei, VerifyTei, SetBusy, ClearBusy, Deactivate, Down, aim_of_request, at_requested, LinkRequest, link_refusal, FrameLine, LinkLayer, BareReport, Serves, bare_shown, told_beside, answer_shown, told_shown, Leads, config_of, LayerStands}
+use Rattle.lapd_line.proofs.Vocabulary.{unit_queue_full, pool_full, refusal, Request, Establish, Release, Data, Unit, Assign, Remove, Check, Disown, AskTei, VerifyTei, SetBusy, ClearBusy, Deactivate, Down, aim_of_request, always, asked_aim, at_requested, link_refusal, FrameLine, LinkLayer, BareReport, Serves, bare_shown, told_beside, answer_shown, told_shown, Leads, config_of, LayerStands}
 use Rattle.lapd_line.proofs.Vocabulary.{IfErr-weaker}
 use Rattle.model_line.specs.Event as line_event
 use Rattle.model_line.specs.Line as machine
-use Rattle.model_line.specs.declared.requests.Request as asking
 use Rattle.model_link.specs.Events as link
-use Rattle.lapd_link.specs.declared.requests.LinkRequest as links
-use Rattle.lapd_link.specs.Events.{request_of as link_request_of}
+use Rattle.lapd_line.specs.Requests.{request_asked, request_linked}
+use Rattle.lapd_line.specs.declared.requests.TeiRequest.{TeiRequest}
+use Rattle.lapd_line.specs.declared.requests.TeiRequest.TheVariants as tei_request
 use Rattle.lapd_line.proofs.LayerRequests.{establish_rows, release_rows, data_rows, set_busy_rows, clear_busy_rows}
 use Rattle.lapd_line.proofs.LinkSteps.{on_ok}
 use Rattle.lapd_line.proofs.LineSteps.{gone_on, leads_on}
@@ -29,29 +29,38 @@ pub aimed_as : (r : Request) {aim : machine.Line → Aim} (e : LinkLayer) (s : S
     → OnOk result (Serves aim [] e s new t o) → OnOk result (Serves (aim_of_request r) [] e s new t o)
 aimed_as r e s new t o result is h = subst (λ x. OnOk result (Serves x [] e s new t o)) (sym is) h
 
--- a request that asks this of the link of a service with a TEI: its rows, and its aim
-pub record Asks (r : asking.Request) (asked : Service × ℕ × LinkRequest) : Type 0 where
-  pub rows : (c : Config) (full : Bool) (m : machine.Line) → refusal c full (request_of r) m ≡ link_refusal c full asked.0 asked.1 (link_request_of asked.2) m
-  pub aim : aim_of_request (request_of r) ≡ (λ m. at_requested asked.0 asked.1 (link_request_of asked.2) (machine.place_in m asked.1))
+-- what is asked of a link is refused by the rows of a link, and is at it
+pub link_rows : (c : Config) (full : Bool) (service : Service) (tei : ℕ) (request : link.Request) (m : machine.Line)
+    → refusal c full (request_linked service tei request) m ≡ link_refusal c full service tei request m
+link_rows c full service tei link.Establish m = establish_rows c full service tei m
+link_rows c full service tei link.Release m = release_rows c full service tei m
+link_rows c full service tei (link.Data contents) m = data_rows c full service tei m contents
+link_rows c full service tei link.SetBusy m = set_busy_rows c full service tei m
+link_rows c full service tei link.ClearBusy m = clear_busy_rows c full service tei m
 
-pub asks_as : {r this : asking.Request} {asked other : Service × ℕ × LinkRequest} → r ≡ this → asked ≡ other → Asks this other → Asks r asked
-asks_as {this = this} {asked} is so h = subst (λ x. Asks x asked) (sym is) (subst (λ x. Asks this x) (sym so) h)
+pub link_aim : (service : Service) (tei : ℕ) (request : link.Request) → aim_of_request (request_linked service tei request) ≡ (λ m. at_requested service tei request (machine.place_in m tei))
+link_aim service tei link.Establish = refl
+link_aim service tei link.Release = refl
+link_aim service tei (link.Data contents) = refl
+link_aim service tei link.SetBusy = refl
+link_aim service tei link.ClearBusy = refl
 
-module _ (service : Service) (tei : ℕ) where
-  pub establish_asks : Asks (asking.TheVariants.Establish service tei) (service, tei, links.TheVariants.Establish)
-  establish_asks = record { rows = λ c full m. establish_rows c full service tei m; aim = refl }
+-- what is asked of TEI management needs no room, and is its event
+pub management_rows : (c : Config) (full : Bool) (asked : TeiRequest) (tei : ℕ) (m : machine.Line) → refusal c full (request_asked asked tei) m ≡ refusal c false (request_asked asked tei) m
+management_rows c full tei_request.Assign tei m = refl
+management_rows c full tei_request.Remove tei m = refl
+management_rows c full tei_request.Check tei m = refl
+management_rows c full tei_request.Disown tei m = refl
+management_rows c full tei_request.Ask tei m = refl
+management_rows c full tei_request.Verify tei m = refl
 
-  pub release_asks : Asks (asking.TheVariants.Release service tei) (service, tei, links.TheVariants.Release)
-  release_asks = record { rows = λ c full m. release_rows c full service tei m; aim = refl }
-
-  pub data_asks : (contents : _) → Asks (asking.TheVariants.Data service tei contents) (service, tei, links.TheVariants.Data contents)
-  data_asks contents = record { rows = λ c full m. data_rows c full service tei m contents.now; aim = refl }
-
-  pub set_busy_asks : Asks (asking.TheVariants.SetBusy service tei) (service, tei, links.TheVariants.SetBusy)
-  set_busy_asks = record { rows = λ c full m. set_busy_rows c full service tei m; aim = refl }
-
-  pub clear_busy_asks : Asks (asking.TheVariants.ClearBusy service tei) (service, tei, links.TheVariants.ClearBusy)
-  clear_busy_asks = record { rows = λ c full m. clear_busy_rows c full service tei m; aim = refl }
+pub management_aim : (asked : TeiRequest) (tei : ℕ) → aim_of_request (request_asked asked tei) ≡ always (asked_aim asked tei)
+management_aim tei_request.Assign tei = refl
+management_aim tei_request.Remove tei = refl
+management_aim tei_request.Check tei = refl
+management_aim tei_request.Disown tei = refl
+management_aim tei_request.Ask tei = refl
+management_aim tei_request.Verify tei = refl
 
 -- where the pool is the last reason and no row holds, none holds with room
 last_row : (rows : List Row) (full : Bool) → first_that_holds (rows ++ pool_full full ∷ []) ≡ None → first_that_holds (rows ++ pool_full false ∷ []) ≡ None

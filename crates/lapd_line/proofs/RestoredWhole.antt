@@ -1,12 +1,13 @@
 -- A line was read: it is whole, and the entities stand for it.
 use Rattle.lapd_line.proofs.Vocabulary.{◌≡◌, ℕ, ◌<◌, ◌≤◌, List, [], ◌∷◌, ◌++◌, replicate, Option, None, Some, refl, sym, ap, subst, ◌∙◌, arith, append_assoc, ⊎_elim, cases_lt, Config, Line, UnitData, LinkLayer, Managing, Marks, LayerStands, IsSound, IsSoundAt, IsOfSide, fresh_line, is_terminal, link_count, management_of, own_of, places_of, is_terminals, Owned, Holds, Store, SameLimits}
-use Rattle.lapd_line.proofs.Vocabulary.{links_pairs, unit_pairs, machine_at, AreFor, UnitRing, All-nil, QueuedUnit, Link, HasTerms, terms, service_at}
+use Rattle.lapd_line.proofs.Vocabulary.{FrameLine, links_pairs, unit_pairs, machine_at, AreFor, UnitRing, All-nil, QueuedUnit, Link, HasTerms, terms, service_at}
 use Rattle.std.proofs.Common.{Vec, Global}
 use Rattle.std.proofs.Common.{append-nil}
 use Rattle.std.proofs.lemmas.List.{get_or_past, length-replicate}
 use Rattle.std.proofs.lemmas.List.Elements.{All-from_get_or, All-replicate}
 use Rattle.lapd_image.specs.Numbers.{list_of}
 use Rattle.lapd_image.specs.Reads.{IsReadAs}
+use Rattle.lapd_line.specs.Image.{Restores}
 use Rattle.lapd_line.specs.ImageParts.{AreSavedLinks, AreSavedTeis, AreSavedUnits, IsSavedAt, LinksAwake, RestoresLayer, RestoresLinks, RestoresUnits, SameButLinks, UnitsStand, tei_in, teis_image}
 use Rattle.lapd_store.proofs.Ownership.{Holds-second}
 use Rattle.model_bits.specs.StuffingLaws.{AreOctets}
@@ -149,3 +150,7 @@ module _ (e : LinkLayer) (s : Store) (others : List Owned) (begun : LayerStands 
               subst (λ y. LayerStands y u rest m) (sym changed) (layer_stands now.links now.has_frame whole.sound kind addressed capacity becomes.terms awake);
         },
       )
+
+-- and so does the line of which they are
+pub line_restored : {front rest : List ℕ} (old : FrameLine) (s : Store) (now : LinkLayer) (t : Store) → RestoresLayer front rest old.layer s now t → Restores front rest old s (record old { layer = now }) t
+line_restored old s now t (m, read, becomes) = (m, read, record { stands = λ others st. record { layer = becomes.stands others st.layer } })

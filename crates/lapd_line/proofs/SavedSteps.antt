@@ -20,7 +20,7 @@ use Rattle.model_teis.specs.network.Machine.{Management}
 use Rattle.model_line.specs.Image as image
 use Rattle.model_line.specs.Image.{own}
 use Rattle.model_line.specs.Stored.{unit_contents}
-use Rattle.lapd_image.proofs.Puts.{puts-then, puts-same}
+use Rattle.lapd_image.proofs.Puts.{puts-none, puts-then, puts-same}
 use Rattle.lapd_line.proofs.PullTakesUnits.{as_many, beside_units}
 
 -- TEI management, of either kind
@@ -107,6 +107,14 @@ link_put {told} {o} {old} {new} {at} {end} is l some puts = subst (λ x. Puts (i
     go : (x : Option ℕ) → is_some x ≡ true → Puts (image.link_if x l) at old end new
     go None none = absurd (false≢true none)
     go (Some tei) none = puts
+
+-- and nothing where there is none
+pub none_there : {told : Option ℕ} (o : Option ℕ) → told ≡ o → is_some told ≡ false → o ≡ None
+none_there None is none = refl
+none_there (Some tei) is none = absurd (false≢true (sym none ∙ ap is_some is))
+
+pub nothing_put : {told : Option ℕ} {old : List ℕ} {at : ℕ} (o : Option ℕ) (l : Link) → told ≡ o → is_some told ≡ false → at ≤ length old → Puts (image.link_if o l) at old at old
+nothing_put {old = old} {at} o l is none within = subst (λ x. Puts (image.link_if x l) at old at old) (sym (none_there o is none)) (puts-none within)
 
 -- it is what the shelf has in its slot
 pub unit_found : {s : Store} {others : List Owned} {waiting : List QueuedUnit} {units : List UnitData} (index : ℕ) (u : QueuedUnit) (d : UnitData) (octets : List ℕ) → slice_get waiting index ≡ Some u

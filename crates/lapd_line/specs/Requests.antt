@@ -11,11 +11,14 @@ use Rattle.model_teis.specs.network.Machine.{Management}
 use Rattle.model_teis.specs.terminal.Events as terminals
 use Rattle.model_teis.specs.terminal.Machine.{Terminal}
 use Rattle.model_line.specs.Effect.{Aim, at_management, at_terminal}
-use Rattle.model_line.specs.Request.{Request, Assign, Remove, Check, Disown, AskTei, VerifyTei}
+use Rattle.lapd_link.specs.Events as links_events
+use Rattle.model_line.specs.Request.{Request, Establish, Release, Data, Unit, Assign, Remove, Check, Disown, AskTei, VerifyTei, SetBusy, ClearBusy, Deactivate, Down}
 use Rattle.model_line.specs.Sides.{has_management, is_network}
 use Rattle.model_line.specs.Line.{Line, has_tei, is_terminal, link_of, terms}
 use Rattle.lapd_line.specs.declared.managing.Managing.{Managing}
 use Rattle.lapd_line.specs.declared.managing.Managing.TheVariants as kind
+use Rattle.lapd_line.specs.declared.requests.AskedOf.{AskedOf}
+use Rattle.lapd_line.specs.declared.requests.AskedOf.TheVariants as asked_of
 use Rattle.lapd_line.specs.declared.requests.TeiRequest.{TeiRequest}
 use Rattle.lapd_line.specs.declared.requests.TeiRequest.TheVariants as tei_request
 
@@ -63,6 +66,21 @@ request_asked tei_request.Check tei = Check tei
 request_asked tei_request.Disown tei = Disown tei
 request_asked tei_request.Ask tei = AskTei
 request_asked tei_request.Verify tei = VerifyTei tei
+
+-- What is asked of a link, and of any part of the line, as a request of the line.
+abbrev pub request_linked : Service → ℕ → link.Request → Request
+request_linked service tei link.Establish = Establish service tei
+request_linked service tei link.Release = Release service tei
+request_linked service tei (link.Data contents) = Data service tei contents
+request_linked service tei link.SetBusy = SetBusy service tei
+request_linked service tei link.ClearBusy = ClearBusy service tei
+
+abbrev pub request_for : AskedOf → Request
+request_for (asked_of.Units service tei contents) = Unit service tei contents.now
+request_for (asked_of.Management asked tei) = request_asked asked tei
+request_for (asked_of.Link service tei request) = request_linked service tei (links_events.request_of request)
+request_for (asked_of.LinkDown service tei) = Deactivate service tei
+request_for asked_of.LineDown = Down
 
 -- Why TEI management itself refuses: of the network's side, and of a terminal.
 abbrev pub network_refusal : TeiRequest → ℕ → Management → Option Refusal

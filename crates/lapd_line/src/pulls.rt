@@ -65,7 +65,6 @@ impl LinkLayer {
     }
 
     /// What the first of these links has to give. It is the first that has a frame; if none is, that costs no call.
-    #[tactic(auto, using(crate::proofs::PullTakesRound::first_within, crate::proofs::PullTakesRound::first_marked))]
     #[inline(always)]
     fn take_first<O: Outlet, S: Shelf>(
         &mut self,

@@ -2,6 +2,7 @@
 
 ghost use Rattle.std.specs.Prelude.{◌≡◌, ◌≤◌, ◌==◌, ◌||◌, ℕ, false, List, [], length, Some, None, IfOk, IfErr, OnOk, OnErr, nat_le};
 ghost use Rattle.lapd_line.specs.{Service, Owned, Store, used_slots, Answers, IsShort, is_on, places_of, Line, at_units, refusal, request_of, aim_of_request, at_deactivated, at_requested, last_unit_tei, asked_aim, is_bad, link_refusal, network_refusal, request_asked, terminal_refusal, may_ask, Standing, Serves, always, IsClear};
+ghost use Rattle.lapd_line.specs.Requests.{request_for};
 ghost use Rattle.lapd_line.specs.declared.managing.Managing.TheVariants as kind;
 ghost use Rattle.model_line.specs.Line as machine;
 ghost use Rattle.model_line.specs.Request as asked;
@@ -25,6 +26,44 @@ pub(crate) enum TeiRequest {
     Disown,
     Ask,
     Verify,
+}
+
+/// What is asked for, by whom it is asked of.
+#[derive(Clone, Copy)]
+pub(crate) enum AskedOf<'r> {
+    /// Contents for the unit data that waits.
+    Units(Service, u8, &'r [u8]),
+    Management(TeiRequest, u8),
+    Link(Service, u8, LinkRequest<'r>),
+    /// The line of a link is down.
+    LinkDown(Service, u8),
+    /// The whole line is.
+    LineDown,
+}
+
+/// Whom a request is for.
+#[inline(always)]
+fn asked_of(request: Request<'_>) -> AskedOf<'_>
+    ensures { request_for result ≡ request_of request.entry }
+{
+    match request {
+        Request::Establish(service, tei) => AskedOf::Link(service, tei, LinkRequest::Establish),
+        Request::Release(service, tei) => AskedOf::Link(service, tei, LinkRequest::Release),
+        Request::Data(service, tei, contents) => {
+            AskedOf::Link(service, tei, LinkRequest::Data(contents))
+        }
+        Request::Unit(service, tei, contents) => AskedOf::Units(service, tei, contents),
+        Request::Assign(tei) => AskedOf::Management(TeiRequest::Assign, tei),
+        Request::Remove(tei) => AskedOf::Management(TeiRequest::Remove, tei),
+        Request::Check(tei) => AskedOf::Management(TeiRequest::Check, tei),
+        Request::Disown(tei) => AskedOf::Management(TeiRequest::Disown, tei),
+        Request::AskTei => AskedOf::Management(TeiRequest::Ask, 0),
+        Request::VerifyTei(tei) => AskedOf::Management(TeiRequest::Verify, tei),
+        Request::SetBusy(service, tei) => AskedOf::Link(service, tei, LinkRequest::SetBusy),
+        Request::ClearBusy(service, tei) => AskedOf::Link(service, tei, LinkRequest::ClearBusy),
+        Request::Deactivate(service, tei) => AskedOf::LinkDown(service, tei),
+        Request::Down => AskedOf::LineDown,
+    }
 }
 
 /// The greatest TEI to which a side sends unit data: the network's to the group, the user's to no more than a terminal's.
@@ -125,30 +164,20 @@ impl LinkLayer {
             → refusal self.old.config (nat_le slots (used_slots (S.store shelf.old))) (request_of request.entry) m ≡ None) }
         ensures served { OnOk result (Serves (aim_of_request (request_of request.entry)) [] self.old (S.store shelf.old) self.new (S.store shelf.new) report.new) }
     {
-        let (service, tei, request) = match request {
-            Request::Unit(service, tei, contents) => {
-                return self.unit(service, tei, contents, report, shelf, slots);
+        match asked_of(request) {
+            AskedOf::Units(service, tei, contents) => {
+                self.unit(service, tei, contents, report, shelf, slots)
             }
-            Request::Assign(tei) => return self.manage(TeiRequest::Assign, tei, report, shelf),
-            Request::Remove(tei) => return self.manage(TeiRequest::Remove, tei, report, shelf),
-            Request::Check(tei) => return self.manage(TeiRequest::Check, tei, report, shelf),
-            Request::Disown(tei) => return self.manage(TeiRequest::Disown, tei, report, shelf),
-            Request::AskTei => return self.manage(TeiRequest::Ask, 0, report, shelf),
-            Request::VerifyTei(tei) => return self.manage(TeiRequest::Verify, tei, report, shelf),
-            Request::Establish(service, tei) => (service, tei, LinkRequest::Establish),
-            Request::Release(service, tei) => (service, tei, LinkRequest::Release),
-            Request::Data(service, tei, contents) => (service, tei, LinkRequest::Data(contents)),
-            Request::SetBusy(service, tei) => (service, tei, LinkRequest::SetBusy),
-            Request::ClearBusy(service, tei) => (service, tei, LinkRequest::ClearBusy),
-            Request::Deactivate(service, tei) => {
-                return self.deactivate(service, tei, report, shelf);
+            AskedOf::Management(asked, tei) => self.manage(asked, tei, report, shelf),
+            AskedOf::Link(service, tei, request) => {
+                self.ask(service, tei, request, report, shelf, slots)
             }
-            Request::Down => {
+            AskedOf::LinkDown(service, tei) => self.deactivate(service, tei, report, shelf),
+            AskedOf::LineDown => {
                 self.give_up(report, shelf);
-                return Ok(());
+                Ok(())
             }
-        };
-        self.ask(service, tei, request, report, shelf, slots)
+        }
     }
 
     /// Asks the link of a service with a TEI.

@@ -11,7 +11,7 @@ use std::alloc::{AllocError, Global};
 use std::marker::Model;
 
 /// Unit data: for which terminals it is, and where its contents lie.
-#[derive(Clone, Copy, PartialEq, Eq, Debug)]
+#[derive(Clone, Copy, Debug)]
 pub(crate) struct QueuedUnit {
     pub(crate) service: Service,
     pub(crate) tei: u8,

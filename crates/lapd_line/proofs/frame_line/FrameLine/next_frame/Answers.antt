@@ -3,6 +3,14 @@ use Rattle.lapd_line.proofs.Vocabulary.{◌≡◌, ◌≤◌, length, take, drop
 use Rattle.lapd_line.proofs.NextSteps.{next_leads, none_leads, gave_none, octets_shown, gave_is, is_written, ended}
 use Rattle.lapd_line.proofs.frame_line.FrameLine.next_frame.Goals as goal
 
+pub take-requires-clause-stands : goal.take-requires-clause-stands
+take-requires-clause-stands g c = c.requires.stands
+
+pub slice_bounds-given-end : goal.slice_bounds-given-end
+slice_bounds-given-end g c =
+    ended (λ out. c.take.new.out.length ≤ length out) c.take.new.out.octets.now _
+    (is_written c.in_ok-orders.orders c.take.ensures (ap orders_taken c.in_ok-orders.was) c.requires.stands).fits (c.out-2-1.given.1.1 (sym c.take.ensures.reference))
+
 pub returns-in_err-orders-clause-gave : goal.returns-in_err-orders-clause-gave
 returns-in_err-orders-clause-gave g c = λ others m st.
     let none = gave_none c.take.ensures (ap orders_taken c.in_err-orders.was) others m st in

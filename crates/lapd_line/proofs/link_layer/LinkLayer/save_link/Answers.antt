@@ -4,8 +4,8 @@ use Rattle.lapd_line.proofs.LayerSteps.{beside_links, link_within, links_part, l
 use Rattle.lapd_line.proofs.LinkSteps.{in_vec, of_part, part, part_stands}
 use Rattle.lapd_link.specs.Image.{IsSaved}
 use Rattle.model_link.specs.Timed.{IsTimed}
-use Rattle.lapd_line.proofs.SavedSteps.{link_put}
-use Rattle.lapd_line.proofs.SavedWhole.{link_saved}
+use Rattle.lapd_line.proofs.SavedSteps.{link_put, nothing_put, none_there}
+use Rattle.lapd_line.proofs.SavedWhole.{free_saved, link_saved}
 use Rattle.lapd_line.proofs.link_layer.LinkLayer.save_link.Goals as goal
 
 pub index-requires : goal.index-requires
@@ -13,6 +13,17 @@ index-requires g c = in_vec c.args.self.now.links (link_within c.requires.stands
 
 pub save-requires-clause-stands : goal.save-requires-clause-stands
 save-requires-clause-stands g c = part_stands (link_within c.requires.stands c.requires.few) c.index.ensures (links_standing c.requires.stands)
+
+pub save-requires-clause-within : goal.save-requires-clause-within
+save-requires-clause-within g c = c.requires.within
+
+pub returns-then-is_none-clause-puts : goal.returns-then-is_none-clause-puts
+returns-then-is_none-clause-puts g c = λ others m st.
+    nothing_put _ (link_at c.args.number m) (c.tei_at.ensures ∙ ap (λ t. get_or t.places (place_at c.args.number) None) (sym st.management)) (c.is_none.ensures ∙ ap not c.if-is_none.true) c.requires.within
+
+pub returns-then-is_none-clause-saved : goal.returns-then-is_none-clause-saved
+returns-then-is_none-clause-saved g c = λ others m st timed.
+    free_saved m c.args.number st c.requires.few (none_there _ (c.tei_at.ensures ∙ ap (λ t. get_or t.places (place_at c.args.number) None) (sym st.management)) (c.is_none.ensures ∙ ap not c.if-is_none.true))
 
 pub returns-clause-puts : goal.returns-clause-puts
 returns-clause-puts g c = λ others m st.

@@ -1,7 +1,13 @@
 -- Hand-written answers for `LinkLayer::take_first`.
 use Rattle.lapd_line.proofs.Vocabulary.{None, Some, sym, subst, first_taken, round, Takes, orders_taken}
-use Rattle.lapd_line.proofs.PullTakesRound.{first_of_links, round_none, round_some}
+use Rattle.lapd_line.proofs.PullTakesRound.{first_marked, first_of_links, first_within, round_none, round_some}
 use Rattle.lapd_line.proofs.link_layer.LinkLayer.take_first.Goals as goal
+
+pub take_link-requires-clause-within : goal.take_link-requires-clause-within
+take_link-requires-clause-within g c = first_within c.args.self.now (g.S.Shelf.store c.args.shelf.now) (Some c.in_ok-number.number) c.requires.stands c.in_ok-number.ensures
+
+pub take_link-requires-clause-has_frame : goal.take_link-requires-clause-has_frame
+take_link-requires-clause-has_frame g c = first_marked c.args.self.now (Some c.in_ok-number.number) c.in_ok-number.ensures
 
 pub returns-in_err-number : goal.returns-in_err-number
 returns-in_err-number g c =

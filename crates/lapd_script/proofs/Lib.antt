@@ -4,6 +4,7 @@ pub mod JobLemmas
 pub mod NumberLemmas
 pub mod ReadLemmas
 pub mod WordLemmas
+pub mod WordRows
 pub mod Rests
 pub mod Pieces
 pub mod Reading

@@ -1,5 +1,6 @@
 -- The first words of the lines.
-use Rattle.std.specs.Prelude.{ℕ, Bool, true, false, if◌then◌else◌, List, codes, bytes_eq, Option, Some, None, option_map}
+use Rattle.std.specs.Prelude.{ℕ, Bool, true, false, if◌then◌else◌, List, [], ◌∷◌, codes, bytes_eq, Option, Some, None}
+use Rattle.std.specs.Borrow.{Bor}
 use Rattle.lapd_frame.specs.declared.services.Service.TheVariants.{Call, Packet}
 use Rattle.lapd_script.specs.declared.command.Asked.{Asked}
 use Rattle.lapd_script.specs.declared.command.Asked.TheVariants.{Assign, Remove, Check, Disown, Verify, Establish, Release, SetBusy, ClearBusy, Deactivate, Data, Unit}
@@ -8,72 +9,38 @@ use Rattle.lapd_transcript.specs.declared.counters.CounterGroup.TheVariants.{Lin
 use Rattle.lapd_script.specs.declared.word.Word.{Word}
 use Rattle.lapd_script.specs.declared.word.Word.TheVariants.{Card, Rx, In, Failed, Next, Down, AskTei, Pull, Wait, Timers, Stored, Losses, Save, Restore, Counters, Ask}
 
--- what is asked for, of a line and a TEI: for the TEI,
-abbrev pub tei_asked : List ℕ → Option Asked → Option Asked
-tei_asked name other =
-    if bytes_eq name (codes "assign") then Some Assign
-    else if bytes_eq name (codes "remove") then Some Remove
-    else if bytes_eq name (codes "check") then Some Check
-    else if bytes_eq name (codes "disown") then Some Disown
-    else if bytes_eq name (codes "verify") then Some Verify
-    else other
+-- The words with their names: of a card and of what happens on its lines,
+abbrev pub word_rows : List (List ℕ × Word)
+word_rows =
+    (codes "card", Card Octets) ∷ (codes "frames", Card Frames) ∷
+    (codes "rx", Rx) ∷ (codes "in", In) ∷ (codes "failed", Failed) ∷ (codes "next", Next) ∷ (codes "down", Down) ∷ (codes "ask", AskTei) ∷
+    -- of what passes and what is shown,
+    (codes "pull", Pull) ∷ (codes "wait", Wait) ∷ (codes "timers", Timers) ∷ (codes "stored", Stored) ∷
+    (codes "losses", Losses) ∷ (codes "save", Save) ∷ (codes "restore", Restore) ∷ (codes "counters", Counters Line) ∷ (codes "messages", Counters Messages) ∷
+    -- of what is asked for a TEI,
+    (codes "assign", Ask Assign) ∷ (codes "remove", Ask Remove) ∷ (codes "check", Ask Check) ∷ (codes "disown", Ask Disown) ∷ (codes "verify", Ask Verify) ∷
+    -- for its link, and for packet links (SAPI 16) with 16 after the word,
+    (codes "establish", Ask (Establish Call)) ∷ (codes "establish16", Ask (Establish Packet)) ∷
+    (codes "release", Ask (Release Call)) ∷ (codes "release16", Ask (Release Packet)) ∷
+    (codes "busy", Ask (SetBusy Call)) ∷ (codes "busy16", Ask (SetBusy Packet)) ∷
+    (codes "ready", Ask (ClearBusy Call)) ∷ (codes "ready16", Ask (ClearBusy Packet)) ∷
+    (codes "deactivate", Ask (Deactivate Call)) ∷ (codes "deactivate16", Ask (Deactivate Packet)) ∷
+    -- and that octets are sent
+    (codes "data", Ask («Data» Call)) ∷ (codes "data16", Ask («Data» Packet)) ∷
+    (codes "unit", Ask (Unit Call)) ∷ (codes "unit16", Ask (Unit Packet)) ∷
+    []
 
--- for its link, and for packet links (SAPI 16) with 16 after the word,
-abbrev pub link_asked : List ℕ → Option Asked → Option Asked
-link_asked name other =
-    if bytes_eq name (codes "establish") then Some (Establish Call)
-    else if bytes_eq name (codes "establish16") then Some (Establish Packet)
-    else if bytes_eq name (codes "release") then Some (Release Call)
-    else if bytes_eq name (codes "release16") then Some (Release Packet)
-    else if bytes_eq name (codes "busy") then Some (SetBusy Call)
-    else if bytes_eq name (codes "busy16") then Some (SetBusy Packet)
-    else if bytes_eq name (codes "ready") then Some (ClearBusy Call)
-    else if bytes_eq name (codes "ready16") then Some (ClearBusy Packet)
-    else if bytes_eq name (codes "deactivate") then Some (Deactivate Call)
-    else if bytes_eq name (codes "deactivate16") then Some (Deactivate Packet)
-    else other
-
--- and that octets are sent
-abbrev pub sent_asked : List ℕ → Option Asked
-sent_asked name =
-    if bytes_eq name (codes "data") then Some («Data» Call)
-    else if bytes_eq name (codes "data16") then Some («Data» Packet)
-    else if bytes_eq name (codes "unit") then Some (Unit Call)
-    else if bytes_eq name (codes "unit16") then Some (Unit Packet)
-    else None
-
-abbrev pub asked_named : List ℕ → Option Asked
-asked_named name = tei_asked name (link_asked name (sent_asked name))
-
--- the words of a card and of what happens on its lines,
-abbrev pub card_word : List ℕ → Option Word → Option Word
-card_word name other =
-    if bytes_eq name (codes "card") then Some (Card Octets)
-    else if bytes_eq name (codes "frames") then Some (Card Frames)
-    else if bytes_eq name (codes "rx") then Some Rx
-    else if bytes_eq name (codes "in") then Some In
-    else if bytes_eq name (codes "failed") then Some Failed
-    else if bytes_eq name (codes "next") then Some Next
-    else if bytes_eq name (codes "down") then Some Down
-    else if bytes_eq name (codes "ask") then Some AskTei
-    else other
-
--- of what passes and what is shown, and of what is asked for
-abbrev pub time_word : List ℕ → Option Word → Option Word
-time_word name other =
-    if bytes_eq name (codes "pull") then Some Pull
-    else if bytes_eq name (codes "wait") then Some Wait
-    else if bytes_eq name (codes "timers") then Some Timers
-    else if bytes_eq name (codes "stored") then Some Stored
-    else if bytes_eq name (codes "losses") then Some Losses
-    else if bytes_eq name (codes "save") then Some Save
-    else if bytes_eq name (codes "restore") then Some Restore
-    else if bytes_eq name (codes "counters") then Some (Counters Line)
-    else if bytes_eq name (codes "messages") then Some (Counters Messages)
-    else other
+-- the word of the first row with this name
+abbrev pub named_in : List ℕ → List (List ℕ × Word) → Option Word
+named_in name [] = None
+named_in name (r ∷ rows) = if bytes_eq name r.0 then Some r.1 else named_in name rows
 
 abbrev pub word_named : List ℕ → Option Word
-word_named name = card_word name (time_word name (option_map Ask (asked_named name)))
+word_named name = named_in name word_rows
+
+-- a row, with the name that it refers to
+abbrev pub row : Bor (List ℕ) × Word → List ℕ × Word
+row r = (r.0.now, r.1)
 
 -- whether octets follow the TEI
 abbrev pub carries_octets : Asked → Bool

@@ -37,16 +37,8 @@ impl CardTimers {
         ensures after { (e : Event) (m : Card) (c : Clock) → HasLedTo S.store card.now line e m → orders.now ≡ orders_at e m → AreLeft e self.old m c
             → TimersStand self.new (after e m) (obeyed line orders.now c) }
     {
-        if self.restart_alone(line, orders) {
-            return;
-        }
-        if line >= self.lines || line >= card.lines() {
-            return;
-        }
-        if !self.exchange(card, line, orders) {
-            for order in orders {
-                self.carry_out(card, line, *order);
-            }
+        if !self.restart_alone(line, orders) {
+            self.obey_more(card, line, orders);
         }
     }
 
@@ -70,7 +62,26 @@ impl CardTimers {
                 return;
             }
         }
-        self.obey(card, line, orders.as_slice());
+        self.obey_more(card, line, orders.as_slice());
+    }
+
+    /// The same, if there are others than a start of the T203 that falls due first.
+    #[inline(never)]
+    fn obey_more<S: Shelf>(&mut self, card: &FrameCard<S>, line: usize, orders: &[Order])
+        ensures lines { self.new.lines ≡ self.old.lines }
+        ensures terminals { self.new.terminals ≡ self.old.terminals }
+        ensures changes { self.new.changes ≡ self.old.changes }
+        ensures after { (e : Event) (m : Card) (c : Clock) → HasLedTo S.store card.now line e m → orders.now ≡ orders_at e m → AreLeft e self.old m c
+            → TimersStand self.new (after e m) (obeyed line orders.now c) }
+    {
+        if line >= self.lines || line >= card.lines() {
+            return;
+        }
+        if !self.exchange(card, line, orders) {
+            for order in orders {
+                self.carry_out(card, line, *order);
+            }
+        }
     }
 
     /// Carries the orders out if there is one, which starts anew the T203 that falls due first of its line, and still does so

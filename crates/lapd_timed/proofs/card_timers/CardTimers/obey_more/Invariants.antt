@@ -1,11 +1,11 @@
--- The invariant of the loop of `obey`.
+-- The invariant of the loop of `obey_more`.
 use Rattle.std.proofs.Common.{◌≡◌, take}
 use Rattle.model_card.specs.Card.{Card}
 use Rattle.model_card.specs.Event.{Event}
 use Rattle.model_timed.specs.Clock.{Clock, obeyed}
 use Rattle.model_timed.specs.Frames.{orders_at}
 use Rattle.lapd_timed.specs.Stands.{AreAmid, AreLeft, HasLedTo}
-use Rattle.lapd_timed.proofs.card_timers.CardTimers.obey.Given as goal
+use Rattle.lapd_timed.proofs.card_timers.CardTimers.obey_more.Given as goal
 
 -- the orders so far have been carried out
 abbrev pub invariant-loop-order : goal.invariant-loop-order

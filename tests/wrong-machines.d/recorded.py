@@ -2,7 +2,7 @@
 tests/reading."""
 from days import days_in
 from definitions import read
-from rows import ROOT, ROWS, name_of, parts_of, proof_of, shared_part, text_of_law
+from rows import ROOT, ROWS, Fault, parts_of, proof_of, shared_part, text_of_law
 from sums import Sums
 from vithrynel.crates import uses
 
@@ -17,7 +17,11 @@ def sums_of(rows):
     for row in rows:
         proofs = [proof_of(crates, it) for it in row.claims]
         texts = [*map(text_of_law, row.claims), *proofs, *map(shared_part, parts_of(proofs))]
-        found[row.name] = sums.sum_of(texts, [(name_of(path), old, new) for path, old, new in row.changes])
+        try:
+            found[row.name] = sums.sum_of(texts, row.changed(sums.texts).items())
+        except Fault:
+            # (it does not fit: --stands tells why)
+            found[row.name] = ""
     return found
 
 

@@ -1,7 +1,12 @@
 """Sums of what rows of wrong machines stand on, for tests/wrong-machines: of each definition and each type that a row's laws,
-proofs and changes reach by name, without comments and blank space. What else stands in their modules does not count."""
+proofs and changes reach by name, without comments and blank space. What else stands in their modules does not count.
+
+A word counts by the definitions that it means. Each of these has a hash, of what it says and of the hashes of what its words mean.
+Definitions that name each other are hashed together. No module, file or crate has a part in it, so what only moved is the same. Nor
+does it count who may name a definition. A lemma counts by its name."""
 import hashlib
 import re
+import sys
 
 from definitions import files_in, module_in, modules_of, read
 
@@ -13,10 +18,21 @@ INSIDE = re.compile(r"^  (?:pub )?([^\s()]+)[^\n]*? :(?: |$)", re.MULTILINE)
 # An import: the full name, and its list, or the other name for it.
 IMPORT = re.compile(r"^(?:unfoldable )?(?:pub )?use (Rattle\.\w+\.[\w.]*\w)(?:\.(\{[^}]*\})| as (\S+))?$", re.MULTILINE)
 WORD = r"[^\s(){}\[\],;.]+"
+# A word, with what it takes of it; and a word inside one that code writes together with a sign.
+CHAIN, INNER = re.compile(rf"{WORD}(?:\.{WORD})*"), re.compile(r"[^\W\d][\w'-]*")
+# The full name of something of a crate.
+FULL = re.compile(r"Rattle\.\w+\.(?:specs|proofs)\.")
+# Variables of λ and of types. What says who may name a definition. A definition of a type, which may give constructors.
+BINDS, OPEN = re.compile(r"[({]([^(){}:=]+) : |λ ([^.=]*)\."), re.compile(r"\bpub(?:\(\w+\))? ")
+TYPED = re.compile(r"(?:(?:abbrev|unfoldable|pub) )*(?:data|record) ")
 # A type of the code, and where one is declared; what is derived and displayed does not count.
 OF_TYPE = re.compile(r"Rattle\.(\w+)\.specs\.declared\.(?:[a-z]\w*\.)*([A-Z]\w*)")
 TYPE = re.compile(r"^pub(?:\(crate\))? (?:struct|enum) (\w+).*(?:;|\{\n(?:.+\n|\n)*?\})\n", re.MULTILINE)
 ATTRIBUTE = re.compile(r"^ *#\[.*\n", re.MULTILINE)
+
+
+# (a definition names others, and these others)
+sys.setrecursionlimit(100_000)
 
 
 def spelled(text, comment=OF_ANTT):
@@ -30,11 +46,20 @@ def names_of(word):
     return [word, *filter(None, word.split("◌"))] if "◌" in word else [word]
 
 
+def meant(parts):
+    """Returns what the words of parts mean."""
+    return set().union(*(means for _, means in parts))
+
+
+def digest(parts):
+    return hashlib.sha256("\n".join(parts).encode()).hexdigest()[:16]
+
+
 class Module:
     """A module: its definitions, by each name that one gives, and what its imports name."""
 
     def __init__(self, text):
-        self.items, self.named, self.listed, self.others = [], {}, {}, {}
+        self.items, self.named, self.heads, self.listed, self.others = [], {}, {}, {}, {}
         for full, words, other in IMPORT.findall(text):
             for plain, as_other in re.findall(r"([^\s,{}]+)(?: as ([^\s,{}]+))?", words):
                 self.listed.update({it: (full, plain) for it in names_of(as_other or plain)})
@@ -44,34 +69,29 @@ class Module:
             self.items[-1] += line
         for number, it in enumerate(self.items):
             begins = BEGINS.match(it)
-            for word in [*filter(None, begins.groups() if begins else ()), *INSIDE.findall(it)]:
-                for name in names_of(word):
-                    self.named.setdefault(name, set()).add(number)
+            for found, words in (self.heads, filter(None, begins.groups() if begins else ())), (self.named, INSIDE.findall(it)):
+                for name in (it for word in words for it in names_of(word)):
+                    found.setdefault(name, set()).add(number)
+        for name, numbers in self.heads.items():
+            self.named.setdefault(name, set()).update(numbers)
 
-    def meant(self, text):
-        """Returns what the words of a text mean here: the numbers of definitions; and, by the words, what imports bring: full
-        names, each with a word there."""
-        own, others = set(), {}
-        for word in sorted(set(re.findall(WORD, text))):
-            own |= self.named.get(word, set())
-            if word in self.listed:
-                others[word] = self.listed[word]
-            if word in self.others:
-                inside = re.findall(rf"(?<![\w.]){re.escape(word)}\.({WORD})", text)
-                others.update({f"{word}.{it}": (self.others[word], it) for it in inside})
-        return own, others
+    def inside(self, text):
+        """Returns the numbers of the definitions of which a text names a field or a constructor."""
+        words = set(re.findall(WORD, text)) - set(self.heads)
+        return set().union(*(self.named.get(it, ()) for it in words))
 
 
 class Sums:
     """The definitions and types of crates, and sums of those that texts reach."""
 
     def __init__(self, crates, names):
-        self.texts, self.modules, self.types, self.reached, self.read = {}, {}, {}, {}, {}
+        self.crates = set(names)
+        self.texts, self.modules, self.types, self.reached, self.read, self.hashes, self.spelled = {}, {}, {}, {}, {}, {}, {}
         for name in names:
             self.texts.update(modules_of(crates, name))
             for file in files_in(f"{crates}/{name}/src"):
                 for it in TYPE.finditer(read(f"{crates}/{name}/src/{file}")):
-                    self.types.setdefault(it[1], {})[f"{name}/{file}"] = spelled(ATTRIBUTE.sub("", it[0]), OF_CODE)
+                    self.types.setdefault(it[1], set()).add(OPEN.sub("", spelled(ATTRIBUTE.sub("", it[0]), OF_CODE)))
 
     def module(self, name):
         if name not in self.modules:
@@ -87,7 +107,7 @@ class Sums:
             return set()
         module, found = self.module(name), set()
         for it in [*full[len(name) + 1 :].split("."), word]:
-            found |= {(name, number) for number in module.named.get(it, ())}
+            found |= {(name, number) for number in module.heads.get(it) or module.named.get(it, ())}
             if it in module.listed and it not in module.named:
                 found |= self.nodes(*module.listed[it])
         # (what is not found by its name counts as all of the module)
@@ -98,43 +118,128 @@ class Sums:
         if node not in self.reached:
             at, which = node
             if at == "type":
-                words = {word for text in self.types.get(which, {}).values() for word in re.findall(r"\b[A-Z]\w*", text)}
+                words = {word for text in self.types.get(which, ()) for word in re.findall(r"\b[A-Z]\w*", text)}
                 self.reached[node] = {("type", it) for it in words if it in self.types}
+            elif at == "kit":
+                self.reached[node] = set()
             else:
-                self.reached[node] = self.named_in(at, self.module(at).items[which])
+                own = self.module(at).inside(self.module(at).items[which])
+                self.reached[node] = meant(self.said(node)).union((at, it) for it in own)
         return self.reached[node]
 
-    def named_in(self, name, text):
-        """Returns the definitions and types that a text names in a module."""
-        own, others = self.module(name).meant(text)
-        return {(name, it) for it in own}.union(*(self.nodes(*it) for it in others.values()))
+    def parts_of(self, module, text, name=""):
+        """Returns a definition as it is read in a module, in parts: each a word, and the definitions and types that it means. Where
+        it stands does not matter, nor by which name of a module it is taken, nor what else it is called there, nor who may name
+        it."""
+        found, fields, begins = [], set(INSIDE.findall(text)), BEGINS.match(text)
+        own = names_of(begins[1] or begins[2]) if begins else []
+        for line in spelled(OPEN.sub("", text)).splitlines(True):
+            at, variables = 0, fields | self.variables(module, line, name, own)
+            for chain in CHAIN.finditer(line):
+                found.append((line[at : chain.start()], ()))
+                found += [(chain[0], ())] if chain[0].split(".")[0] in variables else self.parts_of_word(module, chain[0], name)
+                at = chain.end()
+            found.append((line[at:], ()))
+        return found
 
-    def text(self, node):
-        """Returns a definition, with what its imports mean in it, or a type, as it is read."""
+    def variables(self, module, line, name, own):
+        """Returns the words of a line that are variables in it: of λ and of types, and of an equation those on the left that else
+        would mean functions."""
+        found, (left, equal, _) = set(" ".join(sum(BINDS.findall(line), ())).split()), line.partition(" = ")
+        if name and equal and not BEGINS.match(line):
+            words = [it for it in re.findall(WORD, left) if it not in own]
+            found |= {it for it in words if self.is_function(self.meanings(module, it, name)[0][1])}
+        return found
+
+    def is_function(self, nodes):
+        return any(at not in ("type", "kit") and not TYPED.match(self.module(at).items[it]) for at, it in nodes)
+
+    def parts_of_word(self, module, chain, name):
+        """Returns the parts of a word, with what is taken of it."""
+        word, *more = chain.split(".")
+        if FULL.match(chain):
+            parts, more = [(more[-1], self.brought(chain, more[-1]))], []
+        elif more and word in module.others:
+            parts, more = [(more[0], self.brought(module.others[word], more[0]))], more[1:]
+        else:
+            parts = self.meanings(module, word, name)
+        return [*parts, ("".join(f".{it}" for it in more), ())]
+
+    def meanings(self, module, word, name):
+        """Returns the parts of a word of a text, which stands in the module of this full name, if it has one."""
+        if name and word in module.heads:
+            return [(word, {(name, it) for it in module.heads[word]})]
+        if word in module.listed:
+            full, plain = module.listed[word]
+            return [(word if "◌" in plain else plain, self.brought(full, plain))]
+        return [(word, ()), *(("", self.brought(*module.listed[it])) for it in INNER.findall(word) if it in module.listed)]
+
+    def brought(self, full, word):
+        """Returns what an import brings. Of what is neither a definition nor a type, as a lemma, the name alone counts, and of the
+        kit the full name."""
+        return self.nodes(full, word) or (() if full.split(".")[1] in self.crates else {("kit", full)})
+
+    def said(self, node):
+        """Returns the parts of a definition or of a type."""
         if node not in self.read:
             at, which = node
-            if at == "type":
-                lines = [f"{file}\n{text}" for file, text in sorted(self.types.get(which, {}).items())]
+            if at == "kit":
+                self.read[node] = [(which, ())]
+            elif at == "type":
+                texts = sorted(self.types.get(which, {which}))
+                self.read[node] = [("\n".join(texts), ()), *(("", {it}) for it in sorted(self.after(node)))]
             else:
-                module = self.module(at)
-                imports = [f"{word} {' '.join(it)}" for word, it in module.meant(module.items[which])[1].items()]
-                lines = [at, spelled(module.items[which]), *imports]
-            self.read[node] = "\n".join(lines)
+                self.read[node] = self.parts_of(self.module(at), self.module(at).items[which], at)
         return self.read[node]
 
-    def sum_of(self, texts, changes):
-        """Returns a sum of texts and of changes, and of all that they reach: of a text what its imports bring."""
-        left = set()
-        for text in texts:
+    def spelled_out(self, parts, ring=()):
+        """Returns parts as a text, in which each word has beside it the hashes of what it means, except of those of a ring."""
+        told = ({self.hash_of(it) for it in means if it not in ring} for _, means in parts)
+        return "".join(" ".join([word, *sorted(hashes)]) for (word, _), hashes in zip(parts, told))
+
+    def hash_of(self, node):
+        """Returns a hash of a definition or of a type, by what it says, and by those of what it names."""
+        if node not in self.hashes:
+            self.visit(node, [], {})
+        return self.hashes[node]
+
+    def visit(self, node, path, places):
+        """Hashes a definition, and all that it names. Those of a ring, in which each comes to each, are hashed together."""
+        places[node] = lowest = len(path)
+        path.append(node)
+        for it in dict.fromkeys(it for _, means in self.said(node) for it in means):
+            if it not in self.hashes:
+                lowest = min(lowest, places[it] if it in places else self.visit(it, path, places))
+        if lowest == places[node]:
+            ring, path[lowest:] = set(path[lowest:]), []
+            texts = {it: self.spelled_out(self.said(it), ring) for it in ring}
+            self.hashes.update({it: digest([texts[it], *sorted(texts.values())]) for it in ring})
+        return lowest
+
+    def told(self, text):
+        """Returns what a text says, spelled out, and the definitions and types that it names."""
+        if text not in self.spelled:
             module = Module(text)
-            others = set(module.listed.values()).union(*(module.meant(it)[1].values() for it in module.items))
-            left = left.union(*(self.nodes(*it) for it in others))
-        for name, old, new in changes:
-            left |= self.named_in(name, f"{old}\n{new}").union(*(self.nodes(*it) for it in Module(new).listed.values()))
-        met = set()
+            parts = [self.parts_of(module, it) for it in module.items]
+            self.spelled[text] = [self.spelled_out(it) for it in parts], set().union(*map(meant, parts))
+        return self.spelled[text]
+
+    def differ(self, name, text):
+        """Returns what differs in a module if it becomes this text: the definitions, spelled out, and what they name."""
+        here, there = self.module(name), Module(text)
+        # (a word means what it means now)
+        there.heads, there.named = here.heads, here.named
+        parts = [[self.parts_of(module, it, name) for it in module.items] for module in (here, there)]
+        old, new = ({self.spelled_out(it): it for it in some} for some in parts)
+        gone, come = ([it for it in some if it not in others] for some, others in ((old, new), (new, old)))
+        return ["gone:", *gone, "come:", *come], set().union(*(meant({**old, **new}[it]) for it in gone + come))
+
+    def sum_of(self, texts, changes):
+        """Returns a sum of texts and of changes, each a module's full name with the text that it gets, and of all that they reach."""
+        told = [*map(self.told, texts), *(self.differ(*it) for it in changes)]
+        left, met = set().union(*(reached for _, reached in told)), set()
         while left:
             node = left.pop()
             met.add(node)
             left |= self.after(node) - met
-        parts = [*map(spelled, texts), *("\n".join(it) for it in changes), *sorted(map(self.text, met))]
-        return hashlib.sha256("\n".join(parts).encode()).hexdigest()[:16]
+        return digest([*(it for said, _ in told for it in said), *sorted(map(self.hash_of, met))])

@@ -36,7 +36,7 @@
 //! - `stored`: how many octets a card of octets stores, and how many a card of either kind may.
 //!
 //! What the card does is defined below. A row of a link's tables (by state, in `specs/`) and its notes are in
-//! `model_link`, those of TEI management in `lapd_tei`. The refusals of a line are in `model_line`
+//! `model_link`, those of TEI management in `model_teis`. The refusals of a line are in `model_line`
 //! (`specs/Refusal`), of a link in `model_link` (`specs/Requests`), and the port in `model_card::ports`. The types of notes and
 //! refusals stand in `lapd_frame`, the words of a script in `lapd_script`.
 //!

@@ -5,10 +5,12 @@
 //! started and stopped. A `Clock` keeps the moment at which each running timer falls due, and
 //! gives the timers back one after the other as their moments come. It reads no clock of its own:
 //! moments are numbers that its caller hands in, in milliseconds. It finds a timer by a look at those of its line.
-//! `Moments` does the same for a caller who knows the place of each timer: it starts and stops it there, and looks at no other.
+//! `Moments` does the same for a caller who knows the place of each timer: it starts and stops it there. Only
+//! if that was the first of its line does it look at the others of the line.
 //!
 //! - `clock`: `Clock`, the running timers of all lines. `clock::line`: those of one line. `clock::firsts`: when the first of
-//!   each line falls due, and which line's is the first of all. `clock::saved`: a clock in an image, and restored from it.
+//!   each line falls due, and which line's is the first of all. `clock::saved`: a clock in an image.
+//!   `clock::restored`: a clock from one.
 //! - `moments`: `Moments`, a place for each timer of each link of each line, and for each line's T201 and T202.
 //!   `moments::place`: one place. `moments::lead`: which place of a line falls due first, when one changes. `moments::look`:
 //!   which of the card does. `moments::saved`: the moment of a place in an image.
@@ -21,7 +23,8 @@
 //!
 //! # Cost
 //!
-//! All memory is taken by `Clock::start` or `Clock::start_with`: for each line `4 * terminals + 1` places and two moments.
+//! All memory of a `Clock` is taken by `Clock::start` or `Clock::start_with`: for each line `4 * terminals + 1` places and two
+//! moments; that of `Moments` by `Moments::idle`: `4 * terminals + 2` places and a moment. Of a `Clock`,
 //! `next`, and `due` if none is due, look at one moment, whatever the lines. `apply` goes over the timers of its one line,
 //! twice, and where their first falls due at another moment, up a tree over the lines as far as that changes what is
 //! first: six steps at most for 64 lines. A timer that is started again keeps its place, and no other moves. If one is

@@ -10,10 +10,11 @@
 //! - `queue`: the messages that wait to be sent.
 //! - `messages`, `heard`: the messages of the network and of the terminals. `information`: what those of both sides have in
 //!   common, `ENTITY` and `NO_TEI`.
-//! - `terminal`: [`TerminalTeis`], with parts of the same names.
+//! - `terminal`: [`TerminalTeis`]. `terminal/procedure`: what it has asked for, in an image; other parts are named as above.
+//! - `fault`: why a start fails.
 //! - `saved` below these, and below `teis` for the whole: what each is in an image of its card.
 //!
-//! No call but a start takes memory.
+//! No call except a start takes memory.
 //!
 //! # Only tested
 //!

@@ -27,7 +27,8 @@
 //!
 //! - `card_timers`: `CardTimers`; `obeying`: what it is ordered; `places`: where its timers are.
 //! - `changes`: when the states of links changed; `noting`: these are noted; `touches`: of which TEI.
-//! - `timed_card`: `TimedCard`. `wrong_time`: the time that is refused. `saved`: a card in an image, and restored from it.
+//! - `timed_card`: `TimedCard`. `wrong_time`: the time that is refused. `saved` with `saving` and `restoring`: a card in an
+//!   image, and restored from it.
 #![tactic(auto)]
 
 mod card_timers;

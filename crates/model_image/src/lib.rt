@@ -5,7 +5,8 @@
 //! room. A timed card's also has the moments of its timers, and of the last changes of states. It is the same on every processor.
 //! `specs/` has the whole (`Images`) and its clock (`Clocks`), when two cards are the same (`Same`), which cards are saved
 //! (`Sound`), and what is proved of images (`Laws`) and of cards that are restored (`Restored`). The octets of a link stand in
-//! `model_link`, those of a line and of a configuration in `model_line` (`Image`, `ConfigImage`).
+//! `model_link`, those of TEI management in `model_teis`. Those of a line and of a configuration stand in `model_line` (`Image`,
+//! `ConfigImage`). Those of a caller's clock stand in `lapd_clock`.
 //!
 //! What stands half received or half sent in a port of octets is not in it.
 //!

@@ -4,7 +4,9 @@
 //! A line joins TEI management, a link of each service for each TEI, and unit data that waits. `specs/` has the machine; its
 //! worked values are in `laws_line`. It reads from the line and its events (`Line`, `Event`, `Request`) by what an event is
 //! to the parts (`Effect`; `Heard`, `Expiry`, `Requested`), why a request is refused (`Refusal`) and what is sent next
-//! (`Taken`) to the whole (`Machine`). `Stored`, `Counts` and `Deliveries` say what is counted of a line. Nothing here is of
+//! (`Taken`) to the whole (`Machine`). `Stored`, `Counts` and `Deliveries` say what is counted of a line. `Image` and
+//! `ConfigImage` have the octets of a line and of a configuration in an image of a card, `Most` how many these are at most, and
+//! `Same` says when two lines are the same to one. Nothing here is of
 //! octets on a line: these are a codec around it (`model_card::ports`).
 //!
 //! The code of a line stands above, in another crate. Here are the plain types that it shares with the definitions:

@@ -6,7 +6,7 @@
 //! link's state and its events first (`Link`, `Events`). Then come what is answered (`Told`) and the words of the
 //! tables (`Steps`, `Words`), and the rows of each state (`TeiAssigned`, `AwaitingEstablishment`, `AwaitingRelease`,
 //! `MultipleFrame`, `Established`, `TimerRecovery`). Requests and offers (`Requests`, `Offers`) and the whole
-//! (`Machine`) are last.
+//! (`Machine`) are last. `Image` has its octets in an image of a card, and `Same` says when two links are the same to one.
 //!
 //! The code of a link stands above, in other crates. Here are the plain types that it shares with
 //! the definitions:
@@ -17,7 +17,6 @@
 //! - `terms`: `Terms`, the parameters of a link.
 //! - `counts`: `LinkCounts`, what is counted of a link.
 //! - `rooms`: `Room`, how much room a link has.
-//!
 //! - `laws`: what holds of the machine itself.
 //!
 //! # Open

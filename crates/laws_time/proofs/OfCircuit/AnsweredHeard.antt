@@ -1,6 +1,5 @@
 -- An octet comes to an end without noise: a frame of the other end is heard, or none; a command is answered, and an answer is heard.
-use Rattle.laws_time.proofs.Vocabulary.{Bool, Config, Control, IsClearAt, IsInRange, Link, LinkEvent, List, None, OctetEndpoint, Option, Parts, Service, Some, TimedEndpoint, [], ap, append_assoc, arith, framed, frames_among, gained, heard-beyond, heard_in, heard_side, heard_with, is_multiple_frame, length, option_map_or, option_to_list, own_side, port_of}
-use Rattle.laws_time.proofs.Vocabulary.{refl, state_number, subst, sym, terms, true, ℕ, ◌*◌, ◌++◌, ◌+◌, ◌∙◌, ◌∷◌, ◌≡◌, ◌≤◌}
+use Rattle.laws_time.proofs.Vocabulary.{Bool, Config, Control, IsClearAt, IsInRange, Link, LinkEvent, List, None, OctetEndpoint, Option, Parts, Service, Some, TimedEndpoint, ap, arith, gained, heard_side, is_multiple_frame, length, option_map_or, own_side, port_of, refl, state_number, subst, sym, terms, true, ℕ, ◌*◌, ◌++◌, ◌+◌, ◌∙◌, ◌∷◌, ◌≡◌, ◌≤◌}
 use Rattle.model_bits.specs.Stream as stream
 use Rattle.model_link.specs.Events as link
 use Rattle.model_link.specs.Machine as links
@@ -8,28 +7,10 @@ use Rattle.model_card.specs.ports.Port as port
 use Rattle.laws_order.specs.circuit.Circuit as circuit
 use Rattle.laws_time.proofs.OfCircuit.AnsweredEnds.{lost, lost-heard, DueAt, frame-put, due-same}
 use Rattle.laws_time.proofs.OfCircuit.AnsweredRows.{Exchange}
-use Rattle.laws_time.proofs.OfCircuit.Beats.{one-of, none-overlong}
 use Rattle.laws_time.proofs.OfCircuit.Open.{half, IsOrdinary}
-use Rattle.laws_time.proofs.OfCircuit.Sender.{out, text_length}
+use Rattle.laws_time.proofs.OfCircuit.Sender.{its-frame, own-frame, text_length}
 use Rattle.laws_time.proofs.OfCircuit.Standing.{Ends, IsOwn, Moved, fine, heard-none, heard-dropped, heard-frame, heard-event}
 use Rattle.laws_time.specs.circuit.LongEnough.{is_of}
-
-module _ (service : Service) (tei : ℕ) (d : Config) (ranged_far : IsInRange d) (other : OctetEndpoint) (k : Ends d service tei 0 ranged_far other) where
-  -- What was heard in what an end gave is one of its frames.
-  stood : (before : List ℕ) (value : ℕ) (more : List ℕ) (e : stream.Event) → (port_of other).given ≡ before ++ value ∷ more → gained d.n201 before value ≡ Some e
-      → (xs : List stream.Event) × (ys : List stream.Event) × (framed (frames_among (port_of other).items) ≡ xs ++ e ∷ ys)
-  stood before value more e given is =
-      let now = before ++ value ∷ [] in
-      let heard = heard_in d.n201 before in
-      let beyond = heard-beyond d.n201 now more in
-      let o = out d.n201 (port_of other) (fine d service tei 0 ranged_far other k) in
-      let on = framed o.on_its_way in (
-        heard,
-        beyond.0 ++ on,
-        o.heard ∙ ap (λ g. heard_in d.n201 g ++ on) (given ∙ sym (append_assoc before (value ∷ []) more))
-            ∙ ap (λ l. l ++ on) (beyond.1 ∙ ap (λ l. l ++ beyond.0) (heard_with d.n201 before value ∙ ap (λ e. heard ++ option_to_list e) is))
-            ∙ append_assoc (heard ++ e ∷ []) beyond.0 on ∙ append_assoc heard (e ∷ []) (beyond.0 ++ on),
-      )
 
 module _ (c : Config) (service : Service) (tei : ℕ) (ranged : IsInRange c) (d : Config) (ranged_far : IsInRange d) (n201 : ℕ) (size : c.n201 ≡ n201) (size_far : d.n201 ≡ n201)
     (side : heard_side c ≡ own_side d) where
@@ -95,10 +76,8 @@ module _ (c : Config) (service : Service) (tei : ℕ) (ranged : IsInRange c) (d 
     abbrev u : OctetEndpoint
     u = circuit.happens (port.octet value) a.at
 
-    stood-there : (e : stream.Event) (before : List ℕ) → (port_of other.at).given ≡ before ++ other.at.way → gained n201 before value ≡ Some e
-        → (xs : List stream.Event) × (ys : List stream.Event) × (framed (frames_among (port_of other.at).items) ≡ xs ++ e ∷ ys)
-    stood-there e before given is =
-        stood service tei d ranged_far other.at k before value more e (given ∙ ap (λ w. before ++ w) comes) (ap (λ n. gained n before value) size_far ∙ is)
+    given-so : (before : List ℕ) → (port_of other.at).given ≡ before ++ other.at.way → (port_of other.at).given ≡ before ++ value ∷ more
+    given-so before given = given ∙ ap (λ w. before ++ w) comes
 
     by-gain : (o : Option stream.Event) → gained n201 (port_of a.at).received value ≡ o → Hears a.at (circuit.happens (port.octet value) a.at) h
     by-gain None is =
@@ -109,12 +88,12 @@ module _ (c : Config) (service : Service) (tei : ℕ) (ranged : IsInRange c) (d 
         hears-with a.at u h (λ e. ⊥) (λ e no. absurd no) mv (λ e is. absurd (mv.by e is))
     by-gain (Some (stream.overlong head)) is =
         let x = clear value more (stream.overlong head) comes is tt in
-        let y = stood-there (stream.overlong head) x.0 x.1 x.2 in
-        absurd (none-overlong (frames_among (port_of other.at).items) y.0 y.1 head y.2)
+        let y = its-frame d.n201 (port_of other.at) (fine d service tei 0 ranged_far other.at k) (IsOwn d service tei 0 ranged_far) k.frames x.0 value more (stream.overlong head) (given-so x.0 x.1)
+        (ap (λ n. gained n x.0 value) size_far ∙ x.2) in absurd (cc y.1)
     by-gain (Some (stream.frame octets)) is =
         let x = clear value more (stream.frame octets) comes is tt in
-        let y = stood-there (stream.frame octets) x.0 x.1 x.2 in
-        let own = one-of (IsOwn d service tei 0 ranged_far) (frames_among (port_of other.at).items) y.0 y.1 octets y.2 k.frames in
+        let own = own-frame d.n201 (port_of other.at) (fine d service tei 0 ranged_far other.at k) (IsOwn d service tei 0 ranged_far) k.frames x.0 value more octets (given-so x.0 x.1)
+        (ap (λ n. gained n x.0 value) size_far ∙ x.2) in
         let mv = heard-frame c service tei 0 ranged a.at h value d octets own.0 own.1 own.2 side (size_far ∙ sym size) (here a.at h value (Some (stream.frame octets)) is) in
         hears-with a.at u h (λ e. e ≡ link.received (link.frame own.0)) (λ e is. (own.0, is)) mv
         (λ e by. own-lost a.at h value octets own is ∙ ap (λ e. lost a.at + (links.told (terms c service tei) e h.its).lost) (sym (mv.by e by)))

@@ -1,6 +1,6 @@
 -- Two ends of the clocked circuit, from beat to beat: what is under way from each, and until when T200 runs there.
-use Rattle.laws_time.proofs.Vocabulary.{All, All-head, All-tail, Config, IsClearAt, IsInRange, IsOfLink, Lengths, List, None, OctetEndpoint, Option, Port, Request, Service, Some, TimedEndpoint, [], answer as ports_answer, answered, ap, append_assoc, arith, asked, asks, comes_to, drop, fall_due, fold, framed, frames_among, gained, happens, heard-beyond, heard-way, heard_in, heard_side}
-use Rattle.laws_time.proofs.Vocabulary.{heard_with, hears, length, length-append, lt-div-mul-add, octet_at, octet_orders, octet_pulled, option_to_list, own_side, port-after, port_of, refl, subst, sym, unwrap_or, with_item, with_octet, within-ports, without_first_octet, ℕ, ◌*◌, ◌++◌, ◌+◌, ◌/◌, ◌∙◌, ◌∷◌, ◌≡◌, ◌≤◌}
+use Rattle.laws_time.proofs.Vocabulary.{All, Config, IsClearAt, IsInRange, IsOfLink, Lengths, List, None, OctetEndpoint, Option, Port, Request, Service, Some, TimedEndpoint, [], answer as ports_answer, answered, ap, arith, asked, asks, comes_to, drop, fall_due, fold, gained, happens, heard-way, heard_side, hears, length, length-append, lt-div-mul-add, octet_at, octet_orders, octet_pulled}
+use Rattle.laws_time.proofs.Vocabulary.{own_side, port-after, port_of, refl, sym, unwrap_or, with_item, with_octet, within-ports, without_first_octet, ℕ, ◌*◌, ◌++◌, ◌+◌, ◌/◌, ◌∙◌, ◌∷◌, ◌≡◌, ◌≤◌}
 use Rattle.model_bits.specs.Stream as stream
 use Rattle.model_line.specs.Event as line
 use Rattle.model_card.specs.ports.Port as port
@@ -10,29 +10,13 @@ use Rattle.laws_time.proofs.OfCircuit.Acts.{Goes, goes-both, soon-then, all-aske
 use Rattle.laws_time.proofs.OfCircuit.Ends.{Rests, at_time, time-comes}
 use Rattle.laws_time.proofs.OfCircuit.Heard.{none-comes, dropped-comes, frame-comes, pulled-end}
 use Rattle.laws_time.proofs.OfCircuit.Open.{half}
-use Rattle.laws_time.proofs.OfCircuit.Sender.{out}
+use Rattle.laws_time.proofs.OfCircuit.Sender.{its-frame, own-frame}
 use Rattle.laws_time.proofs.OfCircuit.Standing.{IsOwn, fine, pulls}
 use Rattle.laws_time.proofs.OfCircuit.Under.{EndOk, Then}
 
 -- The next moment comes after so many beats.
 pub soon-now : (n rate : ℕ) → 1 ≤ rate → n + 1 ≤ (n / rate + 1) * rate
 soon-now n rate some = let x = lt-div-mul-add {a = n} {b = rate} some in grind (arith, x)
-
-same-frame : (f g : List ℕ) → stream.frame f ≡ stream.frame g → f ≡ g
-same-frame f g is = cc is
-
--- A frame that is heard in a stream of frames is one of them, and nothing else is.
-pub one-of : (P : List ℕ → Type 0) (fs : List (List ℕ)) (xs ys : List stream.Event) (o : List ℕ) → framed fs ≡ xs ++ stream.frame o ∷ ys → All P fs → P o
-one-of P [] [] ys o is all = absurd (cc is)
-one-of P [] (x ∷ xs) ys o is all = absurd (cc is)
-one-of P (f ∷ fs) [] ys o is all = subst P (same-frame f o (cc is)) (All-head P f fs all)
-one-of P (f ∷ fs) (x ∷ xs) ys o is all = one-of P fs xs ys o (cc is) (All-tail P f fs all)
-
-pub none-overlong : (fs : List (List ℕ)) (xs ys : List stream.Event) (head : List ℕ) → framed fs ≡ xs ++ stream.overlong head ∷ ys → ⊥
-none-overlong [] [] ys head is = cc is
-none-overlong [] (x ∷ xs) ys head is = cc is
-none-overlong (f ∷ fs) [] ys head is = cc is
-none-overlong (f ∷ fs) (x ∷ xs) ys head is = none-overlong fs xs ys head (cc is)
 
 -- A pull gives an octet, and receives none.
 pub same-received : (o : Option line.Answer) (p : Port) → (with_octet (with_item o p)).received ≡ p.received
@@ -145,22 +129,6 @@ module _ (service : Service) (tei transit : ℕ) (lengths : Lengths) (rate : ℕ
       (bound : transit + S2 + half d service tei 0 ranged_far + 1 + half c service tei 0 ranged ≤ M') (noise : Option ℕ) (clear : IsClearAt n201 noise a other)
       (given : length (port_of a.at).given ≡ n + 1) (given_far : length (port_of other.at).given ≡ n + 1) (way_far : length other.at.way ≡ transit + 1)
       (soon : length (port_of a.at).given ≤ (a.clock.now + 1) * rate) where
-    -- what is heard stood in what the other end gave
-    stood : (before : List ℕ) (value : ℕ) (more : List ℕ) (e : stream.Event) → (port_of other.at).given ≡ before ++ value ∷ more → gained d.n201 before value ≡ Some e
-        → (xs : List stream.Event) × (ys : List stream.Event) × (framed (frames_among (port_of other.at).items) ≡ xs ++ e ∷ ys)
-    stood before value more e given is =
-        let now = before ++ value ∷ [] in
-        let heard = heard_in d.n201 before in
-        let beyond = heard-beyond d.n201 now more in
-        let o = out d.n201 (port_of other.at) (fine d service tei 0 ranged_far other.at k.but.ends) in
-        let on = framed o.on_its_way in (
-          heard,
-          beyond.0 ++ on,
-          o.heard ∙ ap (λ g. heard_in d.n201 g ++ on) (given ∙ sym (append_assoc before (value ∷ []) more))
-              ∙ ap (λ l. l ++ on) (beyond.1 ∙ ap (λ l. l ++ beyond.0) (heard_with d.n201 before value ∙ ap (λ e. heard ++ option_to_list e) is))
-              ∙ append_assoc (heard ++ e ∷ []) beyond.0 on ∙ append_assoc heard (e ∷ []) (beyond.0 ++ on),
-        )
-
     module _ (value : ℕ) (more : List ℕ) (comes : other.at.way ≡ value ∷ more) where
       abbrev Heard : Type 0
       Heard = Then c service tei 0 ranged lengths rate S M' (happens (port.octet (unwrap_or noise value)) a)
@@ -176,16 +144,15 @@ module _ (service : Service) (tei transit : ℕ) (lengths : Lengths) (rate : ℕ
       by-gain (Some (stream.dropped cause)) is = dropped-comes c service tei 0 ranged lengths rate a S M M' h less (unwrap_or noise value) soon cause is
       by-gain (Some (stream.overlong head)) is =
           let x = clear value more (stream.overlong head) comes (ap (λ n. gained n (port_of a.at).received (unwrap_or noise value)) (sym size) ∙ is) tt in
-          let y = stood x.0 value more (stream.overlong head) (given-so x.0 x.1) (ap (λ n. gained n x.0 value) size_far ∙ x.2) in
-          absurd (none-overlong (frames_among (port_of other.at).items) y.0 y.1 head y.2)
+          let y = its-frame d.n201 (port_of other.at) (fine d service tei 0 ranged_far other.at k.but.ends) (IsOwn d service tei 0 ranged_far) k.but.ends.frames x.0 value more (stream.overlong head) (given-so x.0 x.1)
+          (ap (λ n. gained n x.0 value) size_far ∙ x.2) in absurd (cc y.1)
       by-gain (Some (stream.frame octets)) is =
           let x = clear value more (stream.frame octets) comes (ap (λ n. gained n (port_of a.at).received (unwrap_or noise value)) (sym size) ∙ is) tt in
           let there : gained d.n201 x.0 value ≡ Some (stream.frame octets) = ap (λ n. gained n x.0 value) size_far ∙ x.2 in
-          let y = stood x.0 value more (stream.frame octets) (given-so x.0 x.1) there in
           frame-comes c service tei 0 ranged lengths rate a S M M' h less (unwrap_or noise value) soon d ranged_far side (size_far ∙ sym size) octets
           (λ asked_it. let early = k.but.polls.done x.0 value more octets (given-so x.0 x.1) there asked_it in let so_long = before-long x.0 x.1 in
           omega (arith, early, so_long, given, bound))
-          (one-of (IsOwn d service tei 0 ranged_far) (frames_among (port_of other.at).items) y.0 y.1 octets y.2 k.but.ends.frames) is
+          (own-frame d.n201 (port_of other.at) (fine d service tei 0 ranged_far other.at k.but.ends) (IsOwn d service tei 0 ranged_far) k.but.ends.frames x.0 value more octets (given-so x.0 x.1) there) is
 
     pub heard-on : HasHeard n S M' a (without_first_octet (hears noise other.at.way a))
     heard-on = go other.at.way refl

@@ -1,8 +1,7 @@
 -- An end that rings, one thing at a time: T200 runs on, or SABME is due again; as long as no frame is lost.
-use Rattle.laws_time.proofs.Vocabulary.{AreOctets, Bool, Clock, Config, ControlFrame, Expiry, IsInRange, Lengths, LineTold, Link, LinkEvent, LinkTimer, List, None, Observed, Option, Request, Sabme, Service, Some, State, T200, T203, TeiAssigned, Terms, TimedEndpoint, Timer, View, [], aim_of_expiry, aim_of_request}
-use Rattle.laws_time.proofs.Vocabulary.{is_waiting}
-use Rattle.laws_time.proofs.Vocabulary.{and-false, answers, ap, arith, as_heard, at, at_requested, at_timer, by_request, command_in, cond, contents_given, due, expired, false, flat_map, for_layer_3, fresh_link, happens, inl, inr, is_of, is_on, is_same, is_some, length, line_at, link_after as after, link_in, link_of, link_runs, moment_at, moment_of, moves, none-of-both, octet_at}
-use Rattle.laws_time.proofs.Vocabulary.{option_map_or, place_in, port_of, refl, said_by, state, state_number, subst, sym, terms, true, view_behind, view_of, without_first, ℕ, ◌&&◌, ◌++◌, ◌+◌, ◌==◌, ◌||◌, ◌∙◌, ◌∷◌, ◌≡◌, ◌≤◌, ◌⊎◌}
+use Rattle.laws_time.proofs.Vocabulary.{AreOctets, Bool, Clock, Config, ControlFrame, Expiry, IsInRange, Lengths, LineTold, Link, LinkEvent, LinkTimer, List, None, Observed, Option, Request, Sabme, Service, Some, State, T200, T203, Terms, TimedEndpoint, Timer, View, [], aim_of_expiry, aim_of_request, and-false, answers, ap, arith, as_heard, at, at_requested, at_timer, by_request, command_in, cond}
+use Rattle.laws_time.proofs.Vocabulary.{contents_given, due, expired, false, flat_map, for_layer_3, fresh_link, happens, inl, inr, is_of, is_on, is_same, is_some, is_waiting, length, line_at, link_after as after, link_in, link_of, link_runs, moment_at, moment_of, moves, none-of-both, octet_at, option_map_or, place_in, port_of, refl, said_by, state, state_number, subst, sym, terms, true}
+use Rattle.laws_time.proofs.Vocabulary.{view_behind, view_of, without_first, ℕ, ◌&&◌, ◌++◌, ◌+◌, ◌==◌, ◌||◌, ◌∙◌, ◌∷◌, ◌≡◌, ◌≤◌, ◌⊎◌}
 use Rattle.lapd_frame.specs.declared.timers.Timer.TheVariants as timers
 use Rattle.model_link.specs.Events as link
 use Rattle.model_link.specs.Link.{may_repeat}

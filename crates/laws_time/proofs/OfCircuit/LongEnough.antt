@@ -1,6 +1,6 @@
 -- T200 is long enough: as it falls due in a state that awaits an answer, none is under way.
-use Rattle.laws_time.proofs.Vocabulary.{All, All-head, All-tail, AllByRecursion, AreClear, Beat, Bool, Clocked, Config, Control, Expiry, IsClearAt, IsFit, IsInRange, IsTalk, Lengths, Line, List, OctetEndpoint, Parts, Port, RunsLong, Service, Some, TimedEndpoint, [], after, answered_in, ap, arith, asked, beat, drop, eq-eqb, fall_due, false, first_due, fresh, gained, gone, is_final}
-use Rattle.laws_time.proofs.Vocabulary.{is_poll, is_waiting, leb-true, length, length-drop, longest_text, moment_of, mul-div-le, mul-le, port_of, pulling, refl, same_Some, state_number, subst, suc, sym, true, zero, ℕ, ◌*◌, ◌++◌, ◌+◌, ◌/◌, ◌<◌, ◌||◌, ◌∙◌, ◌∷◌, ◌≡◌, ◌≤◌}
+use Rattle.laws_time.proofs.Vocabulary.{All, All-head, All-tail, AllByRecursion, AreClear, Beat, Bool, Clocked, Config, Control, Expiry, IsClearAt, IsFit, IsInRange, IsTalk, Lengths, Line, List, OctetEndpoint, Parts, Port, RunsLong, Service, Some, TimedEndpoint, [], after, answered_in, ap, arith, asked, beat, drop, eq-eqb, fall_due, false, first_due, fresh, gained, gone, is_final, is_poll}
+use Rattle.laws_time.proofs.Vocabulary.{is_waiting, leb-true, length, length-drop, longest_text, moment_of, mul-div-le, mul-le, port_of, pulling, refl, same_Some, state_number, subst, suc, sym, true, zero, ℕ, ◌*◌, ◌++◌, ◌+◌, ◌/◌, ◌<◌, ◌∙◌, ◌∷◌, ◌≡◌, ◌≤◌}
 use Rattle.lapd_frame.specs.declared.timers.Timer.TheVariants as timers
 use Rattle.model_bits.specs.Stream as stream
 use Rattle.model_card.specs.ports.Port as port

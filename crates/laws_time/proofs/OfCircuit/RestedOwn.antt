@@ -13,15 +13,9 @@ use Rattle.laws_time.proofs.OfCircuit.AgainRan.{beaten, both-begin}
 use Rattle.laws_time.proofs.OfCircuit.InBeatsFrames.{stands-there}
 use Rattle.laws_time.proofs.OfCircuit.Orders.{AreOurs, RunsOurs, ours-obeyed}
 use Rattle.laws_time.proofs.OfCircuit.Prompt.{all-obeyed}
+use Rattle.laws_time.proofs.OfCircuit.Sender.{one-framed}
 use Rattle.laws_time.proofs.OfCircuit.Standing.{Ends, IsOwn, bare, ends-asked, ends-expired, heard-none, heard-frame, pulls}
 use Rattle.laws_time.proofs.OfCircuit.Keeping.{comes-keep}
-
--- What is heard in a stream of frames is one of them.
-one-framed : (P : List ℕ → Type 0) (fs : List (List ℕ)) (xs ys : List stream.Event) (e : stream.Event) → framed fs ≡ xs ++ e ∷ ys → All P fs → (o : List ℕ) × (e ≡ stream.frame o) × P o
-one-framed P [] [] ys e is all = absurd (cc is)
-one-framed P [] (x ∷ xs) ys e is all = absurd (cc is)
-one-framed P (f ∷ fs) [] ys e is all = (f, sym (cc is), All-head P f fs all)
-one-framed P (f ∷ fs) (x ∷ xs) ys e is all = one-framed P fs xs ys e (cc is) (All-tail P f fs all)
 
 module _ (service : Service) (tei : ℕ) (c d : Config) (ranged : IsInRange c) (ranged_far : IsInRange d) (face : Face c d) where
   abbrev IsHere : ℕ → Expiry → Type 0

@@ -1,10 +1,17 @@
 -- Up to which octet a port gives frames of a kind, that are on its line, or wait to be put there.
-use Rattle.laws_time.proofs.Vocabulary.{All, AreOctets, Bool, GoOut, IsCut, IsOnItsWay, IsSoundPort, Item, List, Port, Some, StreamEvent as Event, [], all_exact, ap, append-nil, append_assoc, append_cancel_left, arith, bits, cut_sent, false, flat_map, frame, framed, frames_among, frames_among-append, frames_sent, gained, heard_in, heard_whole, heard_with, idle, inl, inr, item_text, left_of}
-use Rattle.laws_time.proofs.Vocabulary.{length, length-append, length-bits, line_text, line_text-push, map, map-append, option_to_list, refl, same_from_push, same_text, sent, some-in, stream_frame, subst, sym, true, true≢false, ℕ, ◌*◌, ◌++◌, ◌+◌, ◌∙◌, ◌∷◌, ◌≡◌, ◌≤◌, ◌⊎◌}
+use Rattle.laws_time.proofs.Vocabulary.{All, All-head, All-tail, AreOctets, Bool, GoOut, IsCut, IsOnItsWay, IsSoundPort, Item, List, Port, Some, StreamEvent as Event, [], all_exact, ap, append-nil, append_assoc, append_cancel_left, arith, bits, cut_sent, false, flat_map, frame, framed, frames_among, frames_among-append, frames_sent, gained, heard-beyond, heard_in, heard_whole, heard_with, idle}
+use Rattle.laws_time.proofs.Vocabulary.{inl, inr, item_text, left_of, length, length-append, length-bits, line_text, line_text-push, map, map-append, option_to_list, refl, same_from_push, same_text, sent, some-in, stream_frame, subst, sym, true, true≢false, ℕ, ◌*◌, ◌++◌, ◌+◌, ◌∙◌, ◌∷◌, ◌≡◌, ◌≤◌, ◌⊎◌}
 use Rattle.laws_order.proofs.Vocabulary.{go_out, all_out}
 
 same-frame : (f g : List ℕ) → stream_frame f ≡ stream_frame g → f ≡ g
 same-frame f g is = cc is
+
+-- What is heard in a stream of frames is one of them.
+pub one-framed : (P : List ℕ → Type 0) (fs : List (List ℕ)) (xs ys : List Event) (e : Event) → framed fs ≡ xs ++ e ∷ ys → All P fs → (o : List ℕ) × (e ≡ stream_frame o) × P o
+one-framed P [] [] ys e is all = absurd (cc is)
+one-framed P [] (x ∷ xs) ys e is all = absurd (cc is)
+one-framed P (f ∷ fs) [] ys e is all = (f, sym (cc is), All-head P f fs all)
+one-framed P (f ∷ fs) (x ∷ xs) ys e is all = one-framed P fs xs ys e (cc is) (All-tail P f fs all)
 
 none-more : (xs : List Event) (e : Event) → xs ≡ xs ++ e ∷ [] → ⊥
 none-more xs e is = let more = ap length is ∙ length-append xs (e ∷ []) in omega (arith, more)
@@ -31,6 +38,22 @@ module _ (n201 : ℕ) where
     out =
         subst (GoOut n201 p.given) exact
         (go_out n201 (map sent p.items) p.given (left_of p) (same_text p.items ∙ h.sound.text.text) (heard_whole n201 p.items h.on.long h.sound.sizes) (cut_sent p.items p.given h.on.cut))
+
+    -- What is heard in what it gave is one of its frames.
+    pub its-frame : (P : List ℕ → Type 0) → All P (frames_among p.items) → (before : List ℕ) (value : ℕ) (more : List ℕ) (e : Event) → p.given ≡ before ++ value ∷ more → gained n201 before value ≡ Some e
+        → (o : List ℕ) × (e ≡ stream_frame o) × P o
+    its-frame P all before value more e given is =
+        let now = before ++ value ∷ [] in
+        let heard = heard_in n201 before in
+        let beyond = heard-beyond n201 now more in
+        let on = framed out.on_its_way in
+        one-framed P (frames_among p.items) heard (beyond.0 ++ on) e
+        (out.heard ∙ ap (λ g. heard_in n201 g ++ on) (given ∙ sym (append_assoc before (value ∷ []) more))
+        ∙ ap (λ l. l ++ on) (beyond.1 ∙ ap (λ l. l ++ beyond.0) (heard_with n201 before value ∙ ap (λ e. heard ++ option_to_list e) is))
+        ∙ append_assoc (heard ++ e ∷ []) beyond.0 on ∙ append_assoc heard (e ∷ []) (beyond.0 ++ on)) all
+
+    pub own-frame : (P : List ℕ → Type 0) → All P (frames_among p.items) → (before : List ℕ) (value : ℕ) (more octets : List ℕ) → p.given ≡ before ++ value ∷ more → gained n201 before value ≡ Some (stream_frame octets) → P octets
+    own-frame P all before value more octets given is = let x = its-frame P all before value more (stream_frame octets) given is in subst P (sym (same-frame octets x.0 x.1)) x.2
 
     pub all-given : (front : List Item) → p.items ≡ front ++ idle ∷ [] → framed (frames_among p.items) ≡ heard_in n201 p.given
     all-given front is =

@@ -25,7 +25,7 @@ BINDERS = re.compile(r'\(((?:\w+ )+):')
 LAW_IN = re.compile(r'^((?:///.*\n)+)(?:#\[.*\n)*pub fn (\w+)\(\)\n((?:.*\n)*?)\{\}', re.MULTILINE)
 # Where laws of one card and of two stand: those that are not in the statement are printed beside it.
 OF_ONE_CARD = 'laws_trace', 'model_card::ports', 'laws_trace::octets', 'model_timed', 'laws_time', 'lapd_text', 'lapd_c'
-OF_TWO_CARDS = 'laws_wire', 'laws_teis', 'laws_order', 'laws_order::circuit', 'laws_time::circuit'
+OF_TWO_CARDS = 'laws_wire', 'laws_order::teis', 'laws_order', 'laws_order::circuit', 'laws_time::circuit'
 
 
 class Row(NamedTuple):

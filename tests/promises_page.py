@@ -59,7 +59,7 @@ RUNS = {
     'frames_are_heard': 'model_card ports/WorkedText', 'given_frames_are_heard': 'laws_trace octets/Worked',
     'frames_go_at_once': 'model_card ports/WorkedText',
     'a_call_comes_through': 'laws_wire Worked', 'a_terminal_comes_through': 'laws_wire WorkedTerminals',
-    'assignments_hold': 'laws_teis Worked', 'two_terminals_differ': 'laws_teis Worked',
+    'assignments_hold': 'laws_order teis/Worked', 'two_terminals_differ': 'laws_order teis/Worked',
     'a_call_comes_through_in_octets': 'laws_order circuit/WorkedCall', 'calls_are_of_frames': 'laws_order circuit/WorkedMixed',
     'all_is_told_in_beats': 'laws_order circuit/Worked',
     'what_is_lost_arrives': 'laws_wire WorkedRecovering', 'expiries_are_counted': 'laws_wire WorkedCounted',

@@ -21,3 +21,4 @@ pub mod ReleaseCounted
 pub mod InTheEnd
 pub mod PremisesMet
 pub mod OfCircuit
+pub mod OfTeis

@@ -8,3 +8,4 @@ pub mod WorkedRelease
 pub mod WorkedInTheEnd
 pub mod WorkedBroken
 pub mod circuit
+pub mod teis

@@ -7,9 +7,9 @@
 //! - `Worked`, `WorkedRelease`, `WorkedInTheEnd`: worked runs that meet their premises and use them;
 //! - `WorkedBroken`: runs that break what is said if a premise is left out.
 //!
-//! `circuit` has two cards of octets. What a card does at an event is the machine of `model_card`, of frames. The wire
-//! is that of `laws_wire`, and what is seen at an end is as in the trace of `laws_trace`. Each law is the contract of a
-//! call that does nothing.
+//! `circuit` has two cards of octets, `teis` a network's line and terminals on one bus. What a card does at an event is
+//! the machine of `model_card`, of frames. The wire is that of `laws_wire`, and what is seen at an end is as in the trace
+//! of `laws_trace`. Each law is the contract of a call that does nothing.
 //!
 //! # Open
 //!
@@ -20,9 +20,11 @@
 
 mod circuit;
 mod laws;
+mod teis;
 
 pub use circuit::{
     a_call_comes_through_in_octets, a_call_comes_to_rest, all_is_told_in_beats,
     calls_are_of_frames, delivered_between_kinds, delivered_though_damaged,
 };
 pub use laws::{delivered_in_order, releases_are_told, releases_end};
+pub use teis::{assignments_hold, two_terminals_differ};

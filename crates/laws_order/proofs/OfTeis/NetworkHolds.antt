@@ -9,13 +9,13 @@ use Rattle.model_line.specs.Event.{Event, request}
 use Rattle.model_line.specs.Request.{Down}
 use Rattle.laws_trace.specs.Managing.{Managed, is_on, octets_of}
 use Rattle.laws_trace.specs.TeisAreManaged.{message_text}
-use Rattle.laws_teis.specs.Bus.{Bus, Network, newly_owed, newly_made, with_teis, gives_up, leaves_untold, removes, is_among, over_of}
-use Rattle.laws_teis.specs.Assignments.{Terminal, CanMeet, IsIn}
-use Rattle.laws_teis.specs.TwoTerminals.{is_older}
-use Rattle.laws_teis.proofs.Frames.{AreNone}
-use Rattle.laws_teis.proofs.Lists.{in-left, in-right, in-either, in-filter, in-filtered, any-left, any-right, any-either, or-left-so, or-right-so, is-there, held-or-over, older-kept, older-new}
-use Rattle.laws_teis.proofs.NewlyMade.{Table, Queue, AreMade, assigned, dropped-front}
-use Rattle.laws_teis.proofs.Waiting.{Known, known, removal, IsCovered, AreCovered, covered-so, covered-both, none-covered, texts, texts-both, removals-are, made-covered, Holds}
+use Rattle.laws_order.specs.teis.Bus.{Bus, Network, newly_owed, newly_made, with_teis, gives_up, leaves_untold, removes, is_among, over_of}
+use Rattle.laws_order.specs.teis.Assignments.{Terminal, CanMeet, IsIn}
+use Rattle.laws_order.specs.teis.TwoTerminals.{is_older}
+use Rattle.laws_order.proofs.OfTeis.Frames.{AreNone}
+use Rattle.laws_order.proofs.OfTeis.Lists.{in-left, in-right, in-either, in-filter, in-filtered, any-left, any-right, any-either, or-left-so, or-right-so, is-there, held-or-over, older-kept, older-new}
+use Rattle.laws_order.proofs.OfTeis.NewlyMade.{Table, Queue, AreMade, assigned, dropped-front}
+use Rattle.laws_order.proofs.OfTeis.Waiting.{Known, known, removal, IsCovered, AreCovered, covered-so, covered-both, none-covered, texts, texts-both, removals-are, made-covered, Holds}
 
 not-true : (b : Bool) → not b ≡ true → b ≡ false
 not-true true is = absurd (true≢false (sym is))

@@ -3,8 +3,8 @@
 use Rattle.std.specs.Prelude.{◌≡◌, ℕ, ◌&&◌, ◌⊎◌, Bool, true, false, List, [], ◌∷◌, All, if◌then◌else◌}
 use Rattle.model_teis.specs.declared.network.remembered.Remembered.{Remembered}
 use Rattle.model_line.specs.declared.config.Config.{Config}
-use Rattle.laws_teis.specs.Bus.{Bus, Past, Step, network_of, removal_comes, is_among, past_of}
-use Rattle.laws_teis.specs.Assignments.{CanMeet, IsThere, IsIn, given_to}
+use Rattle.laws_order.specs.teis.Bus.{Bus, Past, Step, network_of, removal_comes, is_among, past_of}
+use Rattle.laws_order.specs.teis.Assignments.{CanMeet, IsThere, IsIn, given_to}
 
 -- A terminal is to hear that the TEI of an assignment is removed, or has missed it.
 abbrev pub IsOver : Bus → Past → Remembered → Type 0

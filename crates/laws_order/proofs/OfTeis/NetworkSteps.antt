@@ -21,10 +21,10 @@ use Rattle.model_line.specs.Request.{Request, Establish, Release, Data, Unit, As
 use Rattle.laws_trace.specs.LinkFrames.{frame_of}
 use Rattle.laws_trace.specs.Managing.{Managed, Checked, is_on, is_full, comes, owes, gives, asks, requested, is_given, free_tei, checks, is_asked, defers, verified, others, over, leaves, removes, responded, several, ran_out, by_message, by_frame, by_request, by_event, manages, grants}
 use Rattle.laws_trace.specs.ManagingTerminal.{is_message, teis_of}
-use Rattle.laws_teis.specs.Bus.{assigned_in}
-use Rattle.laws_teis.specs.Assignments.{IsIn}
-use Rattle.laws_teis.proofs.Lists.{in-dropped, in-either, in-found, in-filtered, found-passes, any-kept, or-right-so, or-left-so}
-use Rattle.laws_teis.proofs.NewlyMade.{assigned, Changes}
+use Rattle.laws_order.specs.teis.Bus.{assigned_in}
+use Rattle.laws_order.specs.teis.Assignments.{IsIn}
+use Rattle.laws_order.proofs.OfTeis.Lists.{in-dropped, in-either, in-found, in-filtered, found-passes, any-kept, or-right-so, or-left-so}
+use Rattle.laws_order.proofs.OfTeis.NewlyMade.{assigned, Changes}
 
 -- Any event except a line down and a call for the next frame.
 abbrev pub IsOther : Event → Type 0

@@ -21,9 +21,9 @@ use Rattle.laws_trace.specs.Managing as managing
 use Rattle.laws_trace.specs.Managing.{Managed, due, at_terminal, of_terminal, own_of, nothing_due}
 use Rattle.laws_trace.specs.ManagingTerminal.{OfTerminal, teis_of, without_tei, with_tei, is_on, is_free, is_message, named, verifies, over, asks, leaves, removed, verified, by_assigned, by_denied, by_check, by_remove, by_message, by_frame, by_request, by_event, ran_out, grants}
 use Rattle.laws_trace.proofs.AskingSteps.{answers-same, verified-same}
-use Rattle.laws_teis.specs.Bus.{message_in, is_removal, is_heard}
-use Rattle.laws_teis.specs.Assignments.{IsIn, taken_by}
-use Rattle.laws_teis.proofs.Frames.{is_assigned}
+use Rattle.laws_order.specs.teis.Bus.{message_in, is_removal, is_heard}
+use Rattle.laws_order.specs.teis.Assignments.{IsIn, taken_by}
+use Rattle.laws_order.proofs.OfTeis.Frames.{is_assigned}
 
 -- What is taken by what is told.
 abbrev pub takes : OfTerminal → OfTerminal → List Remembered

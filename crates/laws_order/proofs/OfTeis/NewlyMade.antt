@@ -6,9 +6,9 @@ use Rattle.model_teis.specs.declared.network.messages.Message.{Message}
 use Rattle.model_teis.specs.declared.network.messages.Message.TheVariants.{IdentityAssigned}
 use Rattle.model_teis.specs.declared.network.remembered.Remembered.{Remembered}
 use Rattle.laws_trace.specs.Managing.{Managed, is_on}
-use Rattle.laws_teis.specs.Bus.{assigned_in, newly_owed, newly_made}
-use Rattle.laws_teis.specs.Assignments.{IsIn}
-use Rattle.laws_teis.proofs.Lists.{in-filtered, in-filter}
+use Rattle.laws_order.specs.teis.Bus.{assigned_in, newly_owed, newly_made}
+use Rattle.laws_order.specs.teis.Assignments.{IsIn}
+use Rattle.laws_order.proofs.OfTeis.Lists.{in-filtered, in-filter}
 
 -- The assignments of which messages say that they are made.
 abbrev pub assigned : List Message → List Remembered

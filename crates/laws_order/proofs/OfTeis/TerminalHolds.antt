@@ -9,12 +9,12 @@ use Rattle.model_line.specs.Event.{Event, hears}
 use Rattle.laws_trace.specs.Managing.{Managed, is_on, due, own_of}
 use Rattle.laws_trace.specs.ManagingTerminal as terminal
 use Rattle.laws_trace.specs.ManagingTerminal.{OfTerminal, teis_of, by_event, by_message}
-use Rattle.laws_teis.specs.Bus.{Bus, Network, message_in, is_heard, over_of}
-use Rattle.laws_teis.specs.Assignments.{Terminal, CanMeet, IsIn, taken_by, taken, with_given}
-use Rattle.laws_teis.proofs.Frames.{assigned-few}
-use Rattle.laws_teis.proofs.Lists.{in-left, in-right, in-either, in-filter, in-filtered, or-cases, held-or-over}
-use Rattle.laws_teis.proofs.TerminalSteps.{takes, message-takes, removal-takes-off, frame-is, other-takes, then_own, due-so}
-use Rattle.laws_teis.proofs.Waiting.{known, removal, IsCovered, AreCovered, covered-so, texts, Holds}
+use Rattle.laws_order.specs.teis.Bus.{Bus, Network, message_in, is_heard, over_of}
+use Rattle.laws_order.specs.teis.Assignments.{Terminal, CanMeet, IsIn, taken_by, taken, with_given}
+use Rattle.laws_order.proofs.OfTeis.Frames.{assigned-few}
+use Rattle.laws_order.proofs.OfTeis.Lists.{in-left, in-right, in-either, in-filter, in-filtered, or-cases, held-or-over}
+use Rattle.laws_order.proofs.OfTeis.TerminalSteps.{takes, message-takes, removal-takes-off, frame-is, other-takes, then_own, due-so}
+use Rattle.laws_order.proofs.OfTeis.Waiting.{known, removal, IsCovered, AreCovered, covered-so, texts, Holds}
 
 module _ (b : Bus) (can : CanMeet b) (n : Network) (t : Terminal) where
   -- More is missed, and what holds was made since.

@@ -1,7 +1,11 @@
-//! The laws. Each is the contract of a call that does nothing.
+//! TEIs of the network's side and of terminals on one bus, whatever is lost. Each law is the contract of a call that does
+//! nothing.
+//!
+//! What a card does at an event is the machine of `model_card`, and what an observer of a line knows of its TEIs is as in
+//! the laws of `laws_trace`. `specs/teis` has the bus and what is known of it (`Bus`), the laws, and worked runs.
 
-ghost use Rattle.laws_teis.specs.Assignments.{AssignmentsHold};
-ghost use Rattle.laws_teis.specs.TwoTerminals.{TwoTerminalsDiffer};
+ghost use Rattle.laws_order.specs.teis.Assignments.{AssignmentsHold};
+ghost use Rattle.laws_order.specs.teis.TwoTerminals.{TwoTerminalsDiffer};
 
 /// An assignment holds until the terminal hears that it is over, whatever is lost and whenever T201 and T202 expire. A
 /// line of a network's card and one of a terminal's have just begun. Then any events happen at either card, at any of its

@@ -24,8 +24,8 @@ use Rattle.laws_trace.specs.Managing.{Managed, is_on, none_on, due, led, managed
 use Rattle.laws_trace.specs.TeisAreManaged.{is_of_teis}
 use Rattle.laws_trace.proofs.ObservedRun.{is-told}
 use Rattle.laws_trace.proofs.TeisAreManaged.{teis-are-managed, follows-now}
-use Rattle.laws_teis.specs.Bus.{Network, network_led, network_after, with_teis, is_there}
-use Rattle.laws_teis.specs.Assignments.{Terminal, terminal_led, terminal_after, with_given, taken, taken_by}
+use Rattle.laws_order.specs.teis.Bus.{Network, network_led, network_after, with_teis, is_there}
+use Rattle.laws_order.specs.teis.Assignments.{Terminal, terminal_led, terminal_after, with_given, taken, taken_by}
 
 filter-same : (p q : Remembered → Bool) (xs : List Remembered) → ((r : Remembered) → p r ≡ q r) → filter p xs ≡ filter q xs
 filter-same p q [] same = refl

@@ -5,9 +5,9 @@ use Rattle.std.proofs.Common.{inl, inr, subst, sym, ap, ◌∙◌, arith, true�
 use Rattle.std.proofs.lemmas.List.Folds.{list_any-append}
 use Rattle.model_teis.specs.declared.network.remembered.Remembered.{Remembered}
 use Rattle.std.proofs.lemmas.Bool.{and_parts}
-use Rattle.laws_teis.specs.Assignments.{IsIn}
-use Rattle.laws_teis.specs.Bus.{is_among, over_of}
-use Rattle.laws_teis.specs.TwoTerminals.{is_older}
+use Rattle.laws_order.specs.teis.Assignments.{IsIn}
+use Rattle.laws_order.specs.teis.Bus.{is_among, over_of}
+use Rattle.laws_order.specs.teis.TwoTerminals.{is_older}
 
 pub in-left : (r : Remembered) (xs ys : List Remembered) → IsIn r xs → IsIn r (xs ++ ys)
 in-left r [] ys is = absurd is

@@ -7,11 +7,11 @@ use Rattle.model_teis.specs.declared.network.remembered.Remembered.{Remembered}
 use Rattle.laws_trace.specs.Managing.{is_on, own_of, octets_of}
 use Rattle.laws_trace.specs.ManagingTerminal.{teis_of}
 use Rattle.laws_trace.specs.TeisAreManaged.{message_text}
-use Rattle.laws_teis.specs.Bus.{Bus, Network, message_in, is_removal, removes}
-use Rattle.laws_teis.specs.Assignments.{Terminal, CanMeet, IsIn}
-use Rattle.laws_teis.specs.TwoTerminals.{is_older}
-use Rattle.laws_teis.proofs.Frames.{is_assigned, AreNone, message-read, removes-so, assigned-so}
-use Rattle.laws_teis.proofs.NewlyMade.{AreMade, IsMade}
+use Rattle.laws_order.specs.teis.Bus.{Bus, Network, message_in, is_removal, removes}
+use Rattle.laws_order.specs.teis.Assignments.{Terminal, CanMeet, IsIn}
+use Rattle.laws_order.specs.teis.TwoTerminals.{is_older}
+use Rattle.laws_order.proofs.OfTeis.Frames.{is_assigned, AreNone, message-read, removes-so, assigned-so}
+use Rattle.laws_order.proofs.OfTeis.NewlyMade.{AreMade, IsMade}
 
 -- What is known of the assignments: which were made, which hold, and of which the terminal has missed a removal.
 pub record Known : Type 0 where

@@ -20,9 +20,9 @@ use Rattle.model_line.specs.Request.{AskTei, Remove, Check, Down}
 use Rattle.model_card.specs.Event.{at}
 use Rattle.model_card.specs.Run.{moments, after_all}
 use Rattle.laws_line.specs.card.Worked.{usual, on_0}
-use Rattle.laws_teis.specs.Bus.{Bus, Past, Step, network, terminal, receives, loses, past_of, network_of, removal_comes}
-use Rattle.laws_teis.specs.Assignments.{CanMeet, IsThere, given_to}
-use Rattle.laws_teis.specs.TwoTerminals.{is_older}
+use Rattle.laws_order.specs.teis.Bus.{Bus, Past, Step, network, terminal, receives, loses, past_of, network_of, removal_comes}
+use Rattle.laws_order.specs.teis.Assignments.{CanMeet, IsThere, given_to}
+use Rattle.laws_order.specs.teis.TwoTerminals.{is_older}
 
 -- A network's line, and terminals with the seeds 0x1234 and 0x4321.
 abbrev seeded : ℕ → Config

@@ -25,15 +25,15 @@ use Rattle.laws_trace.specs.ManagingTerminal.{teis_of}
 use Rattle.laws_trace.specs.TeisAreManaged.{message_text}
 use Rattle.laws_trace.specs.Trace.{frame_in}
 use Rattle.laws_trace.proofs.TeisAreManaged.{teis-are-managed}
-use Rattle.laws_teis.specs.Bus.{Bus, Network, Past, Step, network, terminal, receives, loses, network_of, with_teis, begun, doing, acting, received, missing, misses, is_heard, gives_up, leaves_untold, over_of, newly_owed}
-use Rattle.laws_teis.specs.Assignments.{Terminal, CanMeet, IsThere, IsIn, terminal_after}
-use Rattle.laws_teis.proofs.Frames.{AreNone, begins-one, begins-none}
-use Rattle.laws_teis.proofs.NewlyMade.{Changes, table-of, same-table, dropped-none, dropped-all}
-use Rattle.laws_teis.proofs.NetworkSteps.{event-so, IsOther}
-use Rattle.laws_teis.proofs.NetworkHolds.{kept, given-up, called-none, called-one}
-use Rattle.laws_teis.proofs.TerminalHolds.{grows, lost, no-frame, comes, terminal_now}
-use Rattle.laws_teis.proofs.Seen.{network-teis, network-then, terminal-then}
-use Rattle.laws_teis.proofs.Waiting.{Holds, removal}
+use Rattle.laws_order.specs.teis.Bus.{Bus, Network, Past, Step, network, terminal, receives, loses, network_of, with_teis, begun, doing, acting, received, missing, misses, is_heard, gives_up, leaves_untold, over_of, newly_owed}
+use Rattle.laws_order.specs.teis.Assignments.{Terminal, CanMeet, IsThere, IsIn, terminal_after}
+use Rattle.laws_order.proofs.OfTeis.Frames.{AreNone, begins-one, begins-none}
+use Rattle.laws_order.proofs.OfTeis.NewlyMade.{Changes, table-of, same-table, dropped-none, dropped-all}
+use Rattle.laws_order.proofs.OfTeis.NetworkSteps.{event-so, IsOther}
+use Rattle.laws_order.proofs.OfTeis.NetworkHolds.{kept, given-up, called-none, called-one}
+use Rattle.laws_order.proofs.OfTeis.TerminalHolds.{grows, lost, no-frame, comes, terminal_now}
+use Rattle.laws_order.proofs.OfTeis.Seen.{network-teis, network-then, terminal-then}
+use Rattle.laws_order.proofs.OfTeis.Waiting.{Holds, removal}
 
 module _ (b : Bus) (can : CanMeet b) where
   abbrev c : Config

@@ -30,8 +30,8 @@ use Rattle.laws_trace.specs.ManagingTerminal.{is_message}
 use Rattle.laws_trace.specs.TeisAreManaged.{message_text}
 use Rattle.laws_trace.specs.Trace.{frame_in}
 use Rattle.laws_wire.proofs.Spelled.{carries}
-use Rattle.laws_teis.specs.Bus.{Bus, message_in, is_removal, removes}
-use Rattle.laws_teis.specs.Assignments.{CanMeet}
+use Rattle.laws_order.specs.teis.Bus.{Bus, message_in, is_removal, removes}
+use Rattle.laws_order.specs.teis.Assignments.{CanMeet}
 
 -- A message in which the assignment is made.
 abbrev pub is_assigned : Remembered → List ℕ → Bool

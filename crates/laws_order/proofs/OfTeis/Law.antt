@@ -2,11 +2,11 @@
 use Rattle.std.specs.Prelude.{◌≡◌, ◌⊎◌, true, List}
 use Rattle.std.proofs.Common.{inl, inr, subst, sym, ap}
 use Rattle.model_teis.specs.declared.network.remembered.Remembered.{Remembered}
-use Rattle.laws_teis.specs.Bus.{Bus, Past, past_of, begun, network_after, network_of}
-use Rattle.laws_teis.specs.Assignments.{AssignmentsHold, IsIn}
-use Rattle.laws_teis.specs.TwoTerminals.{TwoTerminalsDiffer, IsOver, is_older}
-use Rattle.laws_teis.proofs.Lists.{one-older}
-use Rattle.laws_teis.proofs.Runs.{Runs, run-so, begins-runs}
+use Rattle.laws_order.specs.teis.Bus.{Bus, Past, past_of, begun, network_after, network_of}
+use Rattle.laws_order.specs.teis.Assignments.{AssignmentsHold, IsIn}
+use Rattle.laws_order.specs.teis.TwoTerminals.{TwoTerminalsDiffer, IsOver, is_older}
+use Rattle.laws_order.proofs.OfTeis.Lists.{one-older}
+use Rattle.laws_order.proofs.OfTeis.Runs.{Runs, run-so, begins-runs}
 
 pub assignments-hold : AssignmentsHold
 assignments-hold b steps can there r is = ((run-so b can begun steps there (begins-runs b can)).holds.given r is).1.covered

@@ -1,4 +1,4 @@
--- Lemmas.
+-- Lemmas on the TEIs of a bus.
 pub mod Lists
 pub mod NewlyMade
 pub mod NetworkSteps

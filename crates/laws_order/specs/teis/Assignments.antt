@@ -15,7 +15,7 @@ use Rattle.model_card.specs.Event.{Event}
 use Rattle.model_card.specs.Machine.{after}
 use Rattle.model_card.specs.Run.{Moment, moments}
 use Rattle.laws_trace.specs.Managing.{Managed, none_on, due, own_of}
-use Rattle.laws_teis.specs.Bus.{Bus, Past, Step, network, terminal, network_of, removal_comes, past_of, is_there}
+use Rattle.laws_order.specs.teis.Bus.{Bus, Past, Step, network, terminal, network_of, removal_comes, past_of, is_there}
 
 -- The TEIs on the terminal's line that are told as assigned, each with the reference number by which it was asked for (Q.921 clause
 -- 5.3.2). One that management has put there is none of them.

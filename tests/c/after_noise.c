@@ -37,7 +37,8 @@ static void goes_wrong(world *w, const char *what) {
 
 /* What a message has: a number first, and then mostly 1s, which take the most bits on the line. */
 static void write_contents(uint8_t *contents, const message *m) {
-    for (size_t i = 0; i < m->length; i++) contents[i] = i < 4 ? (uint8_t)(m->seed >> 8 * i) : m->seed & 1 ? 0xFF : (uint8_t)(m->seed >> i % 24);
+    for (size_t i = 0; i < m->length; i++)
+        contents[i] = i < 4 ? (uint8_t)(m->seed >> 8 * i) : m->seed & 1 ? 0xFF : (uint8_t)(m->seed >> i % 24);
 }
 
 static void is_told(world *w, int who) {
@@ -126,7 +127,8 @@ static void ask(world *w) {
         while (b->left > 0 && w->granted_count[b->who] < MOST_MESSAGES) {
             message *m = &w->granted[b->who][w->granted_count[b->who]];
             uint8_t contents[N201];
-            *m = (message){.seed = (uint32_t)w->beat * 64 + (uint32_t)(w->granted_count[b->who] * 2) + (below(4) != 0), .length = b->length};
+            uint32_t number = (uint32_t)w->beat * 32 + (uint32_t)w->granted_count[b->who];
+            *m = (message){.seed = 2 * number + (below(4) != 0), .length = b->length};
             write_contents(contents, m);
             if (!ask_end(&w->ends[b->who], w->now, LAPD_DATA, contents, m->length)) break;
             w->granted_count[b->who]++;
@@ -178,8 +180,8 @@ static void receive(world *w, int who) {
 
 /* ---- A run -------------------------------------------------------------------------------------------------------- */
 
-/* In so many octet times all is told once noise has ended: T200 falls due, the enquiry is answered, and of each message but one both
- * ends send two frames in turn. No run of 30,000 took more than 0.9 of it. A call comes after T200 and an answer. */
+/* In so many octet times all is told once noise has ended: T200 falls due, and the enquiry is answered. Then one frame goes for
+ * the first message, and two in turn for each other. See MARGIN. A call comes after T200 and an answer. */
 static long bound(const world *w, int untold) {
     return w->most_t200 + w->answered + (2 * untold - 1) * (w->longest + w->way);
 }
@@ -247,8 +249,9 @@ int main(int count, char **words) {
         over += w.wrong == NULL && (w.is_over || w.is_given_up);
         forged += w.is_forged;
     }
-    printf("%ld runs after noise: %ld given up and told, %ld wrong; at 16 kbit/s a call took %ld ms at most, one message %ld, eight %ld; "
-           "at 64 kbit/s %ld, %ld and %ld\n", runs - forged, over, wrong, longest[0][0] / SLOW, longest[0][1] / SLOW, longest[0][2] / SLOW,
-           longest[1][0] / FAST, longest[1][1] / FAST, longest[1][2] / FAST);
+    const long *slow = longest[0], *fast = longest[1];
+    printf("%ld runs after noise: %ld given up and told, %ld wrong; ", runs - forged, over, wrong);
+    printf("at 16 kbit/s a call took %ld ms at most, one message %ld, eight %ld; ", slow[0] / SLOW, slow[1] / SLOW, slow[2] / SLOW);
+    printf("at 64 kbit/s %ld, %ld and %ld\n", fast[0] / FAST, fast[1] / FAST, fast[2] / FAST);
     return wrong == 0 ? 0 : 1;
 }

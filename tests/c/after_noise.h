@@ -77,7 +77,8 @@ void happened(world *w, int who, int what);
 /* What kind of frame of an end this is. */
 int kind_of(const end *e, const uint8_t *frame, size_t length);
 
-/* What noise makes of the octet that comes to an end now, or NO_NOISE: an octet or a bit is another, or no bit comes, which is all 1s. */
+/* What noise makes of the octet that comes to an end now, or NO_NOISE: an octet or a bit is another, or no bit comes, which
+ * is all 1s. */
 int noise_at(const world *w, int who);
 
 #endif

@@ -82,7 +82,8 @@ static void draw_noise(world *w, long start, long t200) {
         b->until = some_moment(w, from + lasts);
         if (b->until.what == 0) b->until = at(from + lasts);
         if (below(3) != 0) continue;
-        static const int kinds[] = {INFORMATION, POLL, FINAL, ACKNOWLEDGEMENT, REJ, ACKNOWLEDGEMENT | FINAL, REJ | FINAL, POLL | FINAL};
+        static const int kinds[] = {INFORMATION, POLL, FINAL, ACKNOWLEDGEMENT, REJ, ACKNOWLEDGEMENT | FINAL, REJ | FINAL,
+                                    POLL | FINAL};
         b->kind = kinds[below(8)];
         b->left = 1 + (int)below(3);
     }
@@ -142,7 +143,8 @@ void draw(world *w) {
                               .slots = 20, .n201 = N201, .n200 = (uint16_t)w->n200, .side = i == 0 ? LAPD_USER : LAPD_NETWORK};
         start_end(e, &config, w->way);
         e->runs_t200 = least + (longer ? (int)below((uint32_t)(2 * least)) : 0);
-        e->runs_t203 = below(4) == 0 ? 1 + (int)below(4 * (uint32_t)e->runs_t200) : 10000;
+        /* T203 is as long as T200 at least: with 1 ms an end enquires again before an I-frame can begin, for ever. */
+        e->runs_t203 = below(4) == 0 ? e->runs_t200 + (int)below(3 * (uint32_t)e->runs_t200) : 10000;
         if (e->runs_t200 > most) most = e->runs_t200;
     }
     w->most_t200 = (long)most * w->rate;

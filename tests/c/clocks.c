@@ -116,8 +116,9 @@ static int start(world *w, int shorter) {
     for (int i = 0; i < 2; i++) {
         end *e = &w->ends[i];
         uint16_t k = (uint16_t)(1 + below(7)), control = (uint16_t)(2 + below(3));
-        lapd_config config = {.lines = 1, .terminals = 1, .k = k, .k16 = k, .queue = (uint16_t)(k + below(4)), .unit_queue = 1,
-                              .control = control, .slots = 16, .n201 = (uint16_t)n201, .n200 = (uint16_t)below(6),
+        uint16_t queue = (uint16_t)(k + below(4)), n200 = (uint16_t)below(6);
+        lapd_config config = {.lines = 1, .terminals = 1, .k = k, .k16 = k, .queue = queue, .unit_queue = 1,
+                              .control = control, .slots = 16, .n201 = (uint16_t)n201, .n200 = n200,
                               .side = i == 0 ? LAPD_USER : LAPD_NETWORK};
         start_end(e, &config, w->way);
         w->states[i] = 4;

@@ -123,6 +123,18 @@ static void draw_last_command(world *w, long start) {
     }
 }
 
+/* Noise takes an I-frame, and then answers to those that follow: REJ, acknowledgements, or answers to enquiries. */
+static void draw_lost_answers(world *w, long start) {
+    static const int kinds[] = {REJ, REJ | ACKNOWLEDGEMENT, FINAL, ACKNOWLEDGEMENT | FINAL};
+    int who = (int)below(2), most = below(3) == 0 ? 1 : QUEUE, kind = kinds[below(4)], left = 1 + (int)below(3);
+    w->burst_count = w->batch_count = 2;
+    w->bursts[0] = (burst){.at_ends = 2 >> who, .kind = INFORMATION, .left = 1, .from = at(start), .until = at(start)};
+    w->bursts[1] = (burst){.at_ends = 1 << who, .kind = kind, .left = left, .from = at(start), .until = at(start)};
+    w->batches[0] = (batch){who, most, N201, at(start)};
+    long when = start + (long)below((uint32_t)(4 * w->longest));
+    w->batches[1] = (batch){1 - who, below(2) == 0 ? 0 : most, N201, at(when)};
+}
+
 void draw(world *w) {
     memset(w, 0, sizeof *w);
     bool is_primary = below(2) == 0, as_page = below(4) != 0;
@@ -150,10 +162,11 @@ void draw(world *w) {
     w->most_t200 = (long)most * w->rate;
     long t200 = w->most_t200, begins = below(2) == 0 ? 0 : 100 + 2 * (w->longest + w->way);
     w->call = at(begins == 0 ? (long)below((uint32_t)t200) : 0);
-    if (begins > 0 && below(4) == 0) {
-        draw_last_command(w, begins);
-        return;
+    uint32_t chosen = begins > 0 ? below(6) : 2;
+    if (chosen == 0) draw_last_command(w, begins);
+    else if (chosen == 1) draw_lost_answers(w, begins);
+    else {
+        draw_noise(w, begins, t200);
+        draw_batches(w, begins, t200);
     }
-    draw_noise(w, begins, t200);
-    draw_batches(w, begins, t200);
 }

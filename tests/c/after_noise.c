@@ -181,7 +181,7 @@ static void receive(world *w, int who) {
 /* ---- A run -------------------------------------------------------------------------------------------------------- */
 
 /* In so many octet times all is told once noise has ended: T200 falls due, and the enquiry is answered. Then one frame goes for
- * the first message, and two in turn for each other. Of 12,000 runs (seed 1) none took more than 0.83 of it; nor did a call
+ * the first message, and two in turn for each other. Of 18,000 runs (seed 1) none took more than 0.83 of it; nor did a call
  * of T200 and an answer. */
 static long bound(const world *w, int untold) {
     return w->most_t200 + w->answered + (2 * untold - 1) * (w->longest + w->way);

@@ -1,12 +1,10 @@
 /*
- * clocks.c: answers come, and in time, tried at random. Two cards of octets are the two ends of a line, and each has its timers.
- * In a beat each end comes to the moment, layer 3 asks, and what is due falls due. Then each end gives an octet, and
- * receives one, or noise in its place. As T200 falls due in state 5, 6 or 8, no command with P=1 of that end is to come,
- * and no response with F=1 of the other: whether one waits is seen by pulling a copy of the process. The sizes, the rate,
- * the octets in transit, the noise and what is asked for are random; T200 of each end is the least that is long enough, or a
- * little more. And an end that comes to state 5, 6 or 8 without noise leaves it in that time, as long as no frame finds no place
- * and, for 8, the other end is up. This is read from docs/TWO-CARDS.md ("Time"), without any code of the library. For tests
- * alone.
+ * clocks.c: answers come, and in time, tried at random. Two cards of octets are the two ends of a line (ends.h).
+ * As T200 falls due in state 5, 6 or 8, no command with P=1 of that end is to come, and no response with F=1 of the other:
+ * whether one waits is seen by pulling a copy of the process. The sizes, the rate, the octets in transit, the noise and what is
+ * asked for are random; T200 of each end is the least that is long enough, or a little more. And an end that comes to state
+ * 5, 6 or 8 without noise leaves it in that time, as long as no frame finds no place and, for 8, the other end is up.
+ * For tests alone.
  *
  *     clocks RUNS [SEED [SHORTER]]      T200 runs SHORTER milliseconds less than is enough: then some run is to fail
  *
@@ -23,101 +21,20 @@
 #include <sys/wait.h>
 #include <unistd.h>
 
-#include "hdlc.h"
-#include "lapd.h"
+#include "ends.h"
 
-enum { TEI = 5, MOST_IN_TRANSIT = 64, MOST_BEATS = 30000, BEHIND = 1500, NEVER = -1 };
-
-/* What went wrong in the test itself ends it. */
-static void fails(const char *what) {
-    fprintf(stderr, "clocks: %s\n", what);
-    exit(2);
-}
-
-static uint64_t chance;
-
-static uint32_t below(uint32_t most) {
-    chance ^= chance << 13;
-    chance ^= chance >> 7;
-    chance ^= chance << 17;
-    return (uint32_t)(chance >> 16) % most;
-}
-
-/* ---- An end ------------------------------------------------------------------------------------------------------- */
-
-typedef struct {
-    lapd_card card;
-    bool network;
-    int runs_t200, runs_t203;         /* in milliseconds */
-    long t200, t203;                  /* when they fall due, or NEVER */
-    uint8_t transit[MOST_IN_TRANSIT]; /* octets that were given, and not received yet: a ring */
-    int first, count;
-    long given, received;             /* octets */
-    hdlc_listener own, other;         /* what stands in the octets given, and in those received */
-    long last_command, last_response; /* the octet with which such a frame ended last, or NEVER */
-    long ended[MOST_IN_TRANSIT];      /* of the latest frames the octets with which they ended, and their sums: a ring */
-    uint32_t sums[MOST_IN_TRANSIT];
-    int frames;
-    int state;                        /* after the last beat */
-    long lost, waits;                 /* frames that found no place; beats in that state, or NEVER where a premise fails */
-} end;
+enum { MOST_BEATS = 30000, BEHIND = 1500 };
 
 typedef struct {
     int rate, way;    /* octets in a millisecond, and in transit */
     int answered;     /* in so many octet times a command is answered */
     long now;
     end ends[2];
+    int states[2];    /* after the last beat */
+    long waits[2];    /* beats in that state, or NEVER where a premise fails */
     bool was_clean;   /* no noise in the last beat */
     long expiries, answers, late;
 } world;
-
-static lapd_report report;
-
-static void obey(const world *w, end *e) {
-    e->lost += report.lost;
-    for (int i = 0; i < report.order_count; i++) {
-        const lapd_order *order = &report.orders[i];
-        bool is_t200 = order->timer.timer == LAPD_T200;
-        long *moment = is_t200 ? &e->t200 : &e->t203;
-        *moment = order->order == LAPD_START ? w->now + (is_t200 ? e->runs_t200 : e->runs_t203) : NEVER;
-    }
-}
-
-static int state_of(end *e) {
-    uint8_t state = 0;
-    if (lapd_state(&e->card, 0, LAPD_CALL, TEI, &state) != LAPD_OK) fails("a state");
-    return state;
-}
-
-/* The P or F bit (Q.921 table 5): of I-frames and supervisory frames in their second octet. */
-static bool has_bit(const hdlc_listener *heard) {
-    bool is_unnumbered = (heard->frame[2] & 3) == 3;
-    return is_unnumbered ? heard->frame[2] & 0x10 : heard->length > 3 && heard->frame[3] & 1;
-}
-
-/* Commands of the network's side have C/R bit 1, and those of the user's 0 (clause 3.3.2). */
-static bool is_command(const end *e, const hdlc_listener *heard) {
-    return ((heard->frame[0] & 2) != 0) == e->network;
-}
-
-static uint32_t sum_of(const hdlc_listener *heard) {
-    uint32_t sum = 2166136261u;
-    for (size_t i = 0; i < heard->length; i++) sum = (sum ^ heard->frame[i]) * 16777619u;
-    return sum;
-}
-
-static void pull(const world *w, end *e) {
-    uint8_t octet = 0;
-    if (lapd_pull(&e->card, 0, &octet, &report) != LAPD_OK) fails("a pull");
-    obey(w, e);
-    if (hdlc_hear(&e->own, octet)) {
-        if (has_bit(&e->own)) *(is_command(e, &e->own) ? &e->last_command : &e->last_response) = e->given;
-        e->ended[e->frames % MOST_IN_TRANSIT] = e->given;
-        e->sums[e->frames++ % MOST_IN_TRANSIT] = sum_of(&e->own);
-    }
-    e->transit[(e->first + e->count++) % MOST_IN_TRANSIT] = octet;
-    e->given++;
-}
 
 /* ---- T200 falls due ----------------------------------------------------------------------------------------------- */
 
@@ -131,7 +48,7 @@ static long last_to_come(const world *w, end *e, bool command) {
     if (copy == 0) {
         for (int i = 0; i < BEHIND; i++) {
             e->count = 0;
-            pull(w, e);
+            pull(e, w->now);
         }
         last = command ? e->last_command : e->last_response;
         _exit(write(ends[1], &last, sizeof last) == (ssize_t)sizeof last ? 0 : 1);
@@ -151,17 +68,12 @@ static bool is_too_soon(const world *w, end *e, end *other) {
 
 /* All that is due falls due. Answers whether T200 did so too soon. */
 static bool fall_due(world *w, end *e, end *other) {
-    while ((e->t200 != NEVER && e->t200 <= w->now) || (e->t203 != NEVER && e->t203 <= w->now)) {
-        bool is_t200 = e->t200 != NEVER && e->t200 <= w->now && (e->t203 == NEVER || e->t200 <= e->t203);
+    for (uint8_t timer; (timer = due(e, w->now)) != 0; expire(e, w->now, timer)) {
         int state = state_of(e);
-        if (is_t200 && (state == 5 || state == 6 || state == 8)) {
+        if (timer == LAPD_T200 && (state == 5 || state == 6 || state == 8)) {
             w->expiries++;
             if (is_too_soon(w, e, other)) return true;
         }
-        lapd_timer timer = {is_t200 ? LAPD_T200 : LAPD_T203, LAPD_CALL, TEI};
-        *(is_t200 ? &e->t200 : &e->t203) = NEVER;
-        if (lapd_expire(&e->card, 0, &timer, &report) != LAPD_OK) fails("an expiry");
-        obey(w, e);
     }
     return false;
 }
@@ -174,39 +86,21 @@ static void ask(world *w, end *e, int n201) {
     uint8_t request = requests[below(40) == 0 ? 6 : below(6)], contents[260];
     size_t length = request == LAPD_DATA ? below((uint32_t)n201 + 1) : 0;
     for (size_t i = 0; i < length; i++) contents[i] = below(3) != 0 ? 0xFF : (uint8_t)below(256);
-    if (lapd_request(&e->card, 0, request, LAPD_CALL, TEI, contents, length, &report) == LAPD_OK) obey(w, e);
-}
-
-/* An octet comes, or noise in its place. Answers whether noise has made a frame: it stood nowhere in what was given. */
-static bool hear(world *w, end *e, end *other, bool noise) {
-    uint8_t octet = other->transit[other->first];
-    other->first = (other->first + 1) % MOST_IN_TRANSIT;
-    other->count--;
-    if (noise) octet = (uint8_t)below(256);
-    if (hdlc_hear(&e->other, octet)) {
-        bool stood = false;
-        for (int i = 0; i < MOST_IN_TRANSIT && i < other->frames; i++)
-            stood = stood || (other->ended[i] == e->received - w->way && other->sums[i] == sum_of(&e->other));
-        if (!stood) return true;
-    }
-    e->received++;
-    if (lapd_octet(&e->card, 0, octet, &report) != LAPD_OK) fails("an octet");
-    obey(w, e);
-    return false;
+    (void)ask_end(e, w->now, request, contents, length);
 }
 
 /* After a beat: how long an end has been in state 5, 6 or 8, and whether that is too long. */
 static void wait_for_answers(world *w, bool is_clean) {
     for (int i = 0; i < 2; i++) {
-        end *e = &w->ends[i];
-        int before = e->state, other = state_of(&w->ends[1 - i]);
-        e->state = state_of(e);
-        bool holds = is_clean && e->lost == 0 && w->ends[1 - i].lost == 0 && (e->state != 8 || other >= 7);
-        if (e->state != before && e->waits > 0) w->answers++;
-        if (!holds || e->state == 4 || e->state == 7) e->waits = NEVER;
-        else if (e->state != before) e->waits = w->was_clean ? 1 : NEVER;
-        else if (e->waits != NEVER) e->waits++;
-        if (e->waits > w->answered - (e->state == 8 ? 1 : 0)) w->late++;
+        int before = w->states[i], state = state_of(&w->ends[i]), other = state_of(&w->ends[1 - i]);
+        long *waits = &w->waits[i];
+        w->states[i] = state;
+        bool holds = is_clean && w->ends[0].lost == 0 && w->ends[1].lost == 0 && (state != 8 || other >= 7);
+        if (state != before && *waits > 0) w->answers++;
+        if (!holds || state == 4 || state == 7) *waits = NEVER;
+        else if (state != before) *waits = w->was_clean ? 1 : NEVER;
+        else if (*waits != NEVER) ++*waits;
+        if (*waits > w->answered - (state == 8 ? 1 : 0)) w->late++;
     }
     w->was_clean = is_clean;
     w->ends[0].lost = w->ends[1].lost = 0;
@@ -222,26 +116,19 @@ static int start(world *w, int shorter) {
     for (int i = 0; i < 2; i++) {
         end *e = &w->ends[i];
         uint16_t k = (uint16_t)(1 + below(7)), control = (uint16_t)(2 + below(3));
-        lapd_config config = {.lines = 1, .terminals = 1, .k = k, .k16 = k, .queue = (uint16_t)(k + below(4)), .unit_queue = 1,
-                              .control = control, .slots = 16, .n201 = (uint16_t)n201, .n200 = (uint16_t)below(6),
+        uint16_t queue = (uint16_t)(k + below(4)), n200 = (uint16_t)below(6);
+        lapd_config config = {.lines = 1, .terminals = 1, .k = k, .k16 = k, .queue = queue, .unit_queue = 1,
+                              .control = control, .slots = 16, .n201 = (uint16_t)n201, .n200 = n200,
                               .side = i == 0 ? LAPD_USER : LAPD_NETWORK};
-        if (lapd_card_start(&e->card, &config) != LAPD_OK) fails("a start");
-        e->network = i == 1;
-        e->t200 = e->t203 = e->last_command = e->last_response = e->waits = NEVER;
-        e->state = 4;
-        hdlc_listen(&e->own);
-        hdlc_listen(&e->other);
-        if (lapd_request(&e->card, 0, LAPD_ASSIGN, LAPD_CALL, TEI, NULL, 0, &report) != LAPD_OK) fails("a TEI");
-        memset(e->transit, 0x7E, sizeof e->transit);
-        e->count = w->way;
+        start_end(e, &config, w->way);
+        w->states[i] = 4;
+        w->waits[i] = NEVER;
         waiting += control;
     }
-    /* the longest frame: four octets, the information and its check, a 0 after each fifth bit, a flag, and an octet more */
-    int bits = 8 * (n201 + 6), longest = (bits + bits / 5 + 8) / 8 + 1;
-    w->answered = 2 * (longest + w->way) + 9 * waiting;
+    w->answered = answered_in(n201, w->way, waiting);
     for (int i = 0; i < 2; i++) {
         end *e = &w->ends[i];
-        e->runs_t200 = (w->answered + w->rate + w->rate - 1) / w->rate - shorter;
+        e->runs_t200 = enough_t200(w->answered, w->rate) - shorter;
         if (e->runs_t200 < 1) e->runs_t200 = 1;
         if (shorter == 0 && below(4) == 0) e->runs_t200 += (int)below(50);
         e->runs_t203 = 1 + (int)below(3 * (uint32_t)e->runs_t200);
@@ -261,17 +148,17 @@ static bool run(world *w, int shorter) {
                 for (uint32_t more = 1 + below(4); more > 0; more--) ask(w, &w->ends[i], n201);
             too_soon = fall_due(w, &w->ends[i], &w->ends[1 - i]);
         }
-        for (int i = 0; i < 2; i++) pull(w, &w->ends[i]);
+        for (int i = 0; i < 2; i++) pull(&w->ends[i], w->now);
         bool is_clean = true;
         for (int i = 0; i < 2; i++) {
             bool damaged = noisy && (int)below(100) < noise;
             is_clean = is_clean && !damaged;
-            forged = hear(w, &w->ends[i], &w->ends[1 - i], damaged) || forged;
+            int octet = damaged ? (int)below(256) : NO_NOISE;
+            forged = !hear(&w->ends[i], &w->ends[1 - i], w->way, w->now, octet) || forged;
         }
         if (!too_soon && !forged) wait_for_answers(w, is_clean);
     }
-    for (int i = 0; i < 2; i++)
-        if (lapd_card_free(&w->ends[i].card) != LAPD_OK) fails("a card");
+    for (int i = 0; i < 2; i++) free_end(&w->ends[i]);
     return too_soon;
 }
 

@@ -120,7 +120,7 @@ static size_t user_among(const word *words, size_t count) {
     return (count == 11 || count == 12) && is_word(words[count - 2], "user") ? count - 2 : count;
 }
 
-/* Nine numbers, or ten; the tenth is the window of packet links, which else is that of call control. The word user may stand
+/* Nine numbers, or ten; the tenth is the window of the second service, else that of call control. The word user may stand
  * after them, of a terminal with its seed, and then sapi with a number. Last may stand annex-b. */
 static fault read_card(const word *words, size_t count, bool for_frames, command *read) {
     read->verb = CARD;

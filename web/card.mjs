@@ -13,7 +13,7 @@ const NUMBERS = [
   ["slots", 1, 8192, "contents that wait on the whole card"],
   ["N201", 8, 260, "octets of an information field at most (clause 5.9.3)"],
   ["N200", 0, 10, "how often a command is repeated (clause 5.9.2)"],
-  ["K16", 1, 127, "the window of packet links; where it is left out, it is K"],
+  ["K16", 1, 127, "the window of links of the second service; where it is left out, it is K"],
 ];
 const KINDS = [
   ["card", "octets"],
@@ -75,7 +75,7 @@ export class Card {
     this.field("side", "whose side of its lines the card is", this.side);
     this.field("seed", "a terminal's first reference number: 0 to 65535 (clause 5.3.2)", this.seed);
     NUMBERS.forEach(([name, least, most, words], at) => this.field(name, `${words}: ${least} to ${most}`, this.numbers[at]));
-    this.field("SAPI", "the SAPI of packet links: 1 to 62; where it is left out, it is 16", this.sapi);
+    this.field("SAPI", "the SAPI of the second service: 1 to 62; where it is left out, it is 16", this.sapi);
     this.reading = choice("rows", READINGS);
     this.field("rows", "which rows of the tables hold where readers of the standard differ", this.reading);
     form.addEventListener("change", () => onChanged(this.text()));

@@ -4,7 +4,7 @@
 const LONGEST_LINE = 4096;
 const LONGEST_WAIT = 3600000;
 const LINE_FEED = 10;
-export const USUAL_SAPI = "16"; // of packet links
+export const USUAL_SAPI = "16"; // of the second service
 const OCTETS = /^(rx|in) ([0-9]+) (-|(?:[0-9A-Fa-f]{2})*)$/;
 const WAIT = /^wait ([0-9]+)$/;
 const TIMERS = /^timers 0*([1-9][0-9]*) 0*([1-9][0-9]*) 0*([1-9][0-9]*)(?: 0*([1-9][0-9]*))?$/;
@@ -72,7 +72,7 @@ export class Line {
     return this.isOfUser() && /^[0-9]+$/.test(words[words.indexOf("user") + 1] ?? "");
   }
 
-  /** The SAPI of packet links that a card line has. */
+  /** The SAPI of the second service that a card line has. */
   sapi() {
     const words = this.words();
     const found = this.isCard() && words.includes("sapi") ? words[words.indexOf("sapi") + 1] : "";

@@ -107,9 +107,10 @@ static void happens(lapd_card *card, uint32_t lines) {
 static uint32_t starts(lapd_card *card, lapd_config *config) {
     const lapd_lengths lengths = {1 + below(100), 1 + below(1000), 1 + below(100), 1 + below(100)};
     uint16_t k = (uint16_t)(1 + below(3)), k16 = (uint16_t)(1 + below(3)), queue = (uint16_t)((k > k16 ? k : k16) + below(3));
-    lapd_config it = {(uint16_t)(1 + below(3)), (uint16_t)(1 + below(4)), k, k16, queue, (uint16_t)(1 + below(3)), (uint16_t)(2 + below(3)),
-                      (uint16_t)(4 + below(20)), (uint16_t)(8 + below(20)), (uint16_t)below(4), (uint16_t)below(3), (uint16_t)below(65536),
-                      (uint16_t)(below(2) ? 0 : 16 + below(40)), (uint16_t)below(2)};
+    lapd_config it = {.lines = (uint16_t)(1 + below(3)), .terminals = (uint16_t)(1 + below(4)), .k = k, .k16 = k16, .queue = queue,
+                      .unit_queue = (uint16_t)(1 + below(3)), .control = (uint16_t)(2 + below(3)), .slots = (uint16_t)(4 + below(20)),
+                      .n201 = (uint16_t)(8 + below(20)), .n200 = (uint16_t)below(4), .side = (uint16_t)below(3),
+                      .seed = (uint16_t)below(65536), .sapi = (uint16_t)(below(2) ? 0 : 16 + below(40)), .reading = (uint16_t)below(2)};
     *config = it;
     switch (below(4)) {
     case 0: return lapd_card_start(card, config);

@@ -82,14 +82,7 @@ lapd::any_card *station::any() {
 }
 
 fault station::start(const command &line) {
-    std::array<uint16_t, 10> n{};
-    for (size_t i = 0; i < n.size(); i++)
-        n[i] = static_cast<uint16_t>(line.numbers[i]);
-    const uint16_t which = line.terminal ? LAPD_TERMINAL : line.user ? LAPD_USER : LAPD_NETWORK;
-    const auto seed = static_cast<uint16_t>(line.terminal ? line.seed : 0);
-    const auto sapi = static_cast<uint16_t>(line.sapi != 0 ? line.sapi : UINT16_MAX); // 0 would mean 16
-    const uint16_t reading = line.annex_b ? LAPD_ANNEX_B : LAPD_PROFILE;
-    const lapd_config config = {n[0], n[1], n[2], n[9], n[3], n[4], n[5], n[6], n[7], n[8], which, seed, sapi, reading};
+    const lapd_config &config = line.config;
     auto octets = std::make_unique<lapd::card>();
     auto frames = std::make_unique<lapd::frame_card>();
     const lapd_lengths lengths = {1000, 10000, 1000, 2000};
@@ -106,7 +99,7 @@ fault station::start(const command &line) {
         frames_ = std::move(frames);
     else
         octets_ = std::move(octets);
-    sides_.resize(n[0]);
+    sides_.resize(config.lines);
     for (side &it : sides_) {
         hdlc_begin(&it.sender);
         hdlc_listen(&it.listener);

@@ -9,13 +9,12 @@ from compiled import ROOT
 sys.path[:0] = [f"{ROOT}/tools", f"{ROOT}/bindings/python"]
 import lapd
 from vithrynel.bits import Deframer, Frame, Terminal
+from vithrynel.image_words import CARD_LINE
 
 MOST_LINE, MOST_NUMBER, MOST_TEI, MOST_WAIT, MOST_PULLS = 4096, 65535, 255, 3_600_000, 4096
 LATEST = (1 << 63) - 1
 # From which place on counters are those of messages.
 MESSAGES = 65
-# What the numbers of a card line are, in order; the tenth may be left out.
-FIELDS = ("lines", "terminals", "k", "queue", "unit_queue", "control", "slots", "n201", "n200", "k16")
 OCTETS = re.compile(rb"-|(?:[0-9A-Fa-f]{2})*")
 CAUSES = {b"abort": lapd.Cause.ABORT, b"ragged": lapd.Cause.RAGGED, b"short": lapd.Cause.SHORT, b"fcs": lapd.Cause.FCS}
 # Words that are followed by octets, and by how many numbers before; and the range of the last number.
@@ -122,7 +121,7 @@ class Station:
         if self.card:
             raise Faulty("second card")
         *numbers_read, seed, sapi = line.numbers
-        numbers = dict(zip(FIELDS, numbers_read))
+        numbers = dict(zip(CARD_LINE, numbers_read))
         config = lapd.Config(**{"k16": numbers["k"], **numbers}, side=SIDES[line.last], seed=seed,
                              sapi=sapi or MOST_NUMBER,  # 0 would mean 16
                              reading=line.reading)

@@ -2,7 +2,7 @@
 from typing import Callable, List, Optional, Tuple, TypeVar
 
 from vithrynel.clock_image import KIND, ClockImage, Running
-from vithrynel.image import FREE, MAGIC, VERSION, Card, Clock, Config, Line, Link, Message
+from vithrynel.image import FREE, MAGIC, OF_AN_OCTET, VERSION, Card, Clock, Config, Line, Link, Message
 
 T = TypeVar("T")
 
@@ -28,7 +28,7 @@ def message_spelt(it: Message) -> bytes:
 
 
 def config_spelt(c: Config) -> bytes:
-    numbers = bytes([c.lines, c.terminals, c.k, c.k16, c.queue, c.unit_queue, c.control, c.n200, c.sapi])
+    numbers = bytes(getattr(c, it) for it in OF_AN_OCTET)
     seed = b"" if c.seed is None else spelt(2, c.seed)
     return bits_spelt((c.user, c.seed is not None, c.annex_b)) + numbers + spelt(2, c.slots) + spelt(2, c.n201) + seed
 

@@ -19,6 +19,10 @@ FLAGS = "peer-busy own-busy rejecting pending asked t200 t203".split()
 PEER_BUSY, OWN_BUSY, REJECTING, PENDING, ASKED, T200, T203 = range(7)
 # What may wait of frames with a control field of one octet, without P/F: a command, a response, or both.
 UNNUMBERED = {0x03: (True,), 0x43: (True,), 0x6F: (True,), 0x0F: (False,), 0x63: (False,), 0xAF: (True, False)}
+# The numbers of a configuration that take an octet each, in order: what the page calls them, and their least and greatest.
+OF_AN_OCTET = {"lines": ("LINES", 1, 64), "terminals": ("TERMINALS", 1, 8), "k": ("K", 1, 127), "k16": ("K16", 1, 127),
+               "queue": ("QUEUE", 1, 127), "unit_queue": ("UNIT_QUEUE", 1, 16), "control": ("CONTROL", 2, 16), "n200": ("N200", 0, 10),
+               "sapi": ("the SAPI", 1, 62)}
 T = TypeVar("T")
 
 
@@ -176,12 +180,11 @@ def read_version(r: Reader) -> None:
 
 def config_of(r: Reader) -> Config:
     user, seeded, annex_b = r.bits(3)
-    lines, terminals = r.number(1, 1, 64, "LINES"), r.number(1, 1, 8, "TERMINALS")
-    k, k16 = r.number(1, 1, 127, "K"), r.number(1, 1, 127, "K16")
-    queue, unit_queue = r.number(1, max(k, k16), 127, "QUEUE"), r.number(1, 1, 16, "UNIT_QUEUE")
-    control, n200, sapi = r.number(1, 2, 16, "CONTROL"), r.number(1, 0, 10, "N200"), r.number(1, 1, 62, "the SAPI")
+    numbers: Dict[str, int] = {}
+    for field_name, (said, least, most) in OF_AN_OCTET.items():
+        numbers[field_name] = r.number(1, max(numbers["k"], numbers["k16"]) if field_name == "queue" else least, most, said)
     slots, n201 = r.number(2, 1, 8192, "SLOTS"), r.number(2, 8, 260, "N201")
-    return Config(lines, terminals, k, k16, queue, unit_queue, control, n200, sapi, slots, n201, user, r.number(2) if seeded else None, annex_b)
+    return Config(**numbers, slots=slots, n201=n201, user=user, seed=r.number(2) if seeded else None, annex_b=annex_b)
 
 
 def line_of(r: Reader, config: Config) -> Line:

@@ -6,6 +6,8 @@ from .frames import digits
 from .image import COUNTED, COUNTERS, FLAGS, MESSAGES, VERSION, Card, Config, Line, Link, Message, read
 
 STATES = {4: "tei-assigned", 5: "awaiting-establishment", 6: "awaiting-release", 7: "established", 8: "timer-recovery"}
+# The numbers of a card line, in order; the last may be left out, and is k then.
+CARD_LINE = "lines terminals k queue unit_queue control slots n201 n200 k16".split()
 COUNTED_OF_LINK = "sent-again t200-expired rejects-sent rejects-received established".split()
 
 
@@ -22,7 +24,7 @@ def head(card: Card) -> Iterator[str]:
     """The version and the kind, and the card line."""
     yield f"image version {VERSION} of {'octets' if card.of_octets else 'frames'}{' with timers' * (card.clock is not None)}"
     c = card.config
-    numbers = [c.lines, c.terminals, c.k, c.queue, c.unit_queue, c.control, c.slots, c.n201, c.n200, c.k16]
+    numbers = [getattr(c, it) for it in CARD_LINE]
     side = ["user", *[str(c.seed)] * (c.seed is not None)] if c.user else []
     yield " ".join(["card" if card.of_octets else "frames", *map(str, numbers), *side, "sapi", str(c.sapi), *["annex-b"] * c.annex_b])
 

@@ -9,7 +9,7 @@ use Rattle.lapd_clock.specs.Places.{in_order, on_line}
 use Rattle.lapd_clock.specs.Restoring.{IsTimer}
 use Rattle.lapd_clock.specs.Timer.{tei_rank, AreInRange, Lengths}
 use Rattle.lapd_clock.specs.Timers.{Expiry, Timers}
-use Rattle.lapd_clock.specs.declared.clock.line.Held.{Held}
+use Rattle.lapd_clock.specs.declared.held.Held.{Held}
 use Rattle.lapd_clock.proofs.ImageRead.{lengths-split, list-of-timers}
 use Rattle.lapd_clock.proofs.Once.{All-from_in_order}
 use Rattle.lapd_image.specs.Numbers.{list_of, number}

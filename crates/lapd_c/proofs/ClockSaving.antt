@@ -7,7 +7,7 @@ use Rattle.lapd_clock.specs.Image.{from_lists, image, lengths, most_octets, time
 use Rattle.lapd_clock.specs.Places.{expiry_on, on_line}
 use Rattle.lapd_clock.specs.Timer.{Lengths}
 use Rattle.lapd_clock.specs.Timers.{count_on, Expiry, Timers}
-use Rattle.lapd_clock.specs.declared.clock.line.Held.{Held}
+use Rattle.lapd_clock.specs.declared.held.Held.{Held}
 use Rattle.lapd_clock.proofs.Ordered.{count_by-cons}
 use Rattle.lapd_clock.proofs.StandsFor.{count_by-in_order}
 use Rattle.lapd_image.specs.Numbers.{list_of, number}

@@ -2,7 +2,7 @@
 use Rattle.std.specs.Prelude.{◌≡◌, ◌≢◌, ◌≤◌, ◌⊎◌, ℕ, List, length, None, Some, IfSome}
 use Rattle.lapd_clock.specs.Image.{image, most_octets, AreItsTimers, IsNoImage, IsRead, IsSaved}
 use Rattle.lapd_clock.specs.Timers.{Timers}
-use Rattle.lapd_clock.specs.declared.clock.line.Held.{Held}
+use Rattle.lapd_clock.specs.declared.held.Held.{Held}
 use Rattle.lapd_c.specs.declared.clock.ClockHandle.{ClockHandle}
 use Rattle.lapd_c.specs.Slots.{HeldClock}
 use Rattle.lapd_c.specs.Clocks.{clock_of, IsClockCall, IsHandle}

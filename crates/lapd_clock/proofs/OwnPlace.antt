@@ -1,15 +1,16 @@
 -- A timer in its place, and in the set.
-use Rattle.lapd_clock.proofs.Vocabulary.{◌≡◌, ℕ, zero, suc, ◌<◌, ◌≤◌, Bool, true, false, cond, not, ◌&&◌, ◌||◌, List, [], ◌∷◌, length, filter, get_or, get_or-map, set, refl, sym, ap, ◌∙◌, subst, arith, All, AllByRecursion, HoldsAt, nat_tests, Timer, Expiry, is_before, is_of, is_held, without, never, put_in_order, in_order, cases_lt, inl, inr}
-use Rattle.std.proofs.lemmas.Bool.{and_parts}
-use Rattle.std.specs.Prelude.{Option, None, Some, IfSome, IfNone}
+use Rattle.lapd_clock.proofs.Vocabulary.{◌≡◌, ℕ, zero, suc, ◌<◌, ◌≤◌, Bool, true, false, cond, not, ◌&&◌, ◌||◌, ◌==◌, List, [], ◌∷◌, length, filter, get_or, get_or-map, set, refl, sym, ap, ◌∙◌, subst, arith, All, AllByRecursion, HoldsAt, nat_tests, Timer, Expiry, is_before, is_of, is_held, is_same, without, IsOneEach, never, put_in_order, in_order, cases_lt, inl, inr}
+use Rattle.std.proofs.lemmas.Bool.{and_parts, false≢true}
 use Rattle.std.proofs.lemmas.List.Elements.{All-head, All-tail}
 use Rattle.lapd_clock.proofs.Ordered.{filter-put_in_order}
 use Rattle.lapd_clock.proofs.TimerOrder.{before_order}
 use Rattle.lapd_clock.proofs.StandsFor.{IsInOrder-in_order}
-use Rattle.lapd_clock.specs.OwnPlaces.{is_running, timers_in, nothing, at, with_timer, without_timer, runs_as, place_runs, expiry_of, expiries_of, is_nowhere, RunsAt, IsItsPlace}
+use Rattle.lapd_clock.specs.OwnPlaces.{is_running, timers_in, nothing, at, with_timer, without_timer, runs_as, place_runs, expiry_of, expiries_of, is_nowhere, IsItsPlace, IsPlaceFor, RunsAt}
 use Rattle.lapd_clock.specs.declared.moments.place.Place.{Place}
 use Rattle.lapd_clock.proofs.First.{All-in_order}
-use Rattle.lapd_clock.proofs.Standing.{there, parted, rests, All-map}
+use Rattle.lapd_clock.proofs.Standing.{there, parted, rests, runs, All-map}
+use Rattle.lapd_clock.proofs.Once.{from_put, All-from_in_order}
+use Rattle.lapd_clock.proofs.Again.{equal}
 
 -- what stands at a place that rests is nothing to the set
 pub resting : (es : List Expiry) (i : ℕ) (z w : Expiry) → never ≤ z.moment → never ≤ w.moment → filter is_running (set es i z) ≡ filter is_running (set es i w)
@@ -23,11 +24,13 @@ set_own [] i = refl
 set_own (x ∷ xs) zero = refl
 set_own (x ∷ xs) (suc i) = ap (λ ys. x ∷ ys) (set_own xs i)
 
+rests-same : (es : List Expiry) (i : ℕ) → (at i es).moment ≡ never → es ≡ without_timer i es
+rests-same es i rests = sym (ap (λ m. set es i (record (at i es) { moment = m })) (sym rests) ∙ set_own es i)
+
 -- a stop at a place that rests
 pub stops_nothing : (ps : List Place) (es : List Expiry) (i : ℕ) (u : Place) → expiries_of ps ≡ es → i < length es → u ≡ get_or ps i u → u.moment ≡ never → es ≡ without_timer i es
 stops_nothing ps es i u is within at_it rests =
-    let moment_is : (at i es).moment ≡ never = ap (λ (e : Expiry). e.moment) (ap (at i) (sym is) ∙ get_or-map expiry_of ps i u nothing (there i ps es is within) ∙ ap expiry_of (sym at_it)) ∙ rests in
-    sym (ap (λ m. set es i (record (at i es) { moment = m })) (sym moment_is) ∙ set_own es i)
+    rests-same es i (ap (λ (e : Expiry). e.moment) (ap (at i) (sym is) ∙ get_or-map expiry_of ps i u nothing (there i ps es is within) ∙ ap expiry_of (sym at_it)) ∙ rests)
 
 set_twice : (es : List Expiry) (i : ℕ) (z w : Expiry) → set (set es i z) i w ≡ set es i w
 set_twice [] i z w = refl
@@ -91,6 +94,51 @@ none_held line timer (e ∷ es) h = let split = neither (is_of line timer e) (is
 pub stopped_nowhere : (es : List Expiry) (line : ℕ) (timer : Timer) → is_nowhere line timer es → without line timer (timers_in es) ≡ timers_in es
 stopped_nowhere es line timer h = none_out line timer (timers_in es) (none_held line timer (timers_in es) h)
 
+-- what runs at a place is in the set
+falsely : (line : ℕ) (timer : Timer) (es : List Expiry) (i : ℕ) → AllByRecursion (λ e. is_of line timer e ≡ false) (filter is_running es) → (at i es).moment < never → i < length es
+    → is_of line timer (at i es) ≡ false
+falsely line timer [] i all soon within = absurd (omega (arith, within))
+falsely line timer (e ∷ es) zero all soon within =
+    (subst (λ b. AllByRecursion (λ e. is_of line timer e ≡ false) (cond b (e ∷ filter is_running es) (filter is_running es))) (runs e soon) all).0
+falsely line timer (e ∷ es) (suc i) all soon within = falsely line timer es i (rest (is_running e) all) soon (omega (arith, within))
+  where
+    rest : (b : Bool) → AllByRecursion (λ e. is_of line timer e ≡ false) (cond b (e ∷ filter is_running es) (filter is_running es)) → AllByRecursion (λ e. is_of line timer e ≡ false) (filter is_running es)
+    rest true all = all.1
+    rest false all = all
+
+pub runs-held : (line : ℕ) (timer : Timer) (es : List Expiry) (i : ℕ) → RunsAt i line timer es → is_held line timer (timers_in es) ≡ true
+runs-held line timer es i found = go (is_held line timer (timers_in es)) refl
+  where
+    go : (b : Bool) → is_held line timer (timers_in es) ≡ b → is_held line timer (timers_in es) ≡ true
+    go true e = e
+    go false e = absurd (false≢true
+        (sym (falsely line timer es i (All-from_in_order (λ e. is_of line timer e ≡ false) (filter is_running es) (none_held line timer (timers_in es) e)) found.runs found.within) ∙ found.its))
+
+same_number : (a b : ℕ) → (a == b) ≡ true → a ≡ b
+same_number a b h = grind (arith, nat_tests)
+
+-- a timer that runs at a place, or one that runs nowhere, at a place that rests: no other of its kind runs
+pub its-place : (es : List Expiry) (i line : ℕ) (timer : Timer) → IsPlaceFor i line timer es → IsOneEach (timers_in es) → IsItsPlace i line timer es
+its-place es i line timer (inl here) once =
+    let e = at i es in
+    let rest = timers_in (without_timer i es) in
+    let parts = and_parts (e.line == line) (is_same e.timer timer) here.its in
+    let line_is : e.line ≡ line = same_number e.line line parts.0 in
+    let others : AllByRecursion (λ other. is_of e.line e.timer other ≡ false) rest =
+    (from_put e rest (subst IsOneEach (parted es i (record e { moment = never }) here.within (omega arith) here.runs) once)).0 in
+    record {
+      within = here.within;
+      line_is = line_is;
+      only = subst (λ t. AllByRecursion (λ other. is_of line t other ≡ false) rest) (equal e.timer timer parts.1) (subst (λ l. AllByRecursion (λ other. is_of l e.timer other ≡ false) rest) line_is others);
+      its = λ _. here.its;
+    }
+its-place es i line timer (inr (here, nowhere)) once = record {
+  within = here.within;
+  line_is = here.its_line;
+  only = subst (λ xs. AllByRecursion (λ other. is_of line timer other ≡ false) (timers_in xs)) (rests-same es i here.rests) (none_held line timer (timers_in es) nowhere);
+  its = λ soon. absurd (omega (arith, soon, here.rests));
+}
+
 -- A look through all places finds where a timer runs.
 pub runs_at : (ps : List Place) (i line : ℕ) (timer : Timer) → i < length ps → HoldsAt (λ p. place_runs line timer p ≡ true) ps i → RunsAt i line timer (expiries_of ps)
 runs_at [] i line timer within h = absurd (omega (arith, within))
@@ -123,14 +171,3 @@ nowhere ps line timer all =
     held_none line timer (timers_in (expiries_of ps))
     (All-in_order (λ e. is_of line timer e ≡ false) (filter is_running (expiries_of ps))
     (not_there line timer (expiries_of ps) (All-map (λ e. runs_as line timer e ≡ false) ps (recursion_of (λ p. place_runs line timer p ≡ false) ps all))))
-
--- as the call finds the places
-pub found_is : (ps seen : List Place) (es : List Expiry) (line : ℕ) (timer : Timer) (o : Option ℕ) → seen ≡ ps → expiries_of ps ≡ es → IfSome o (λ place. place < length seen)
-    → IfSome o (λ place. HoldsAt (λ p. place_runs line timer p ≡ true) seen place) → IfSome o (λ place. RunsAt place line timer es)
-found_is ps seen es line timer None same is within there = tt
-found_is ps seen es line timer (Some i) same is within there = subst (RunsAt i line timer) (ap expiries_of same ∙ is) (runs_at seen i line timer within there)
-
-pub none_is : (ps seen : List Place) (es : List Expiry) (line : ℕ) (timer : Timer) (o : Option ℕ) → seen ≡ ps → expiries_of ps ≡ es
-    → IfNone o (All (λ p. place_runs line timer p ≡ false) seen) → IfNone o (is_nowhere line timer es)
-none_is ps seen es line timer None same is all = subst (λ xs. is_nowhere line timer xs) (ap expiries_of same ∙ is) (nowhere seen line timer all)
-none_is ps seen es line timer (Some i) same is all = tt

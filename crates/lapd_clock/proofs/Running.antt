@@ -32,11 +32,6 @@ pub finds_place-without : (c : Timers) (line : ℕ) (timer : Timer) → count_on
 unfolding finds_place
 finds_place-without c line timer o = grind (arith, nat_lt, count_on-held, nat_tests, without-not_held)
 
--- where it finds none, it was not held
-pub without-no_place : (c : Timers) (line : ℕ) (timer : Timer) → finds_place c line (Start timer) ≡ false → without line timer c.running ≡ c.running
-unfolding finds_place
-without-no_place c line timer = grind (arith, nat_lt, without-not_held)
-
 -- ---- what holds of every clock
 
 pub IsOneEach-filter : (p : Expiry → Bool) (es : List Expiry) → IsOneEach es → IsOneEach (filter p es)
@@ -98,15 +93,6 @@ with_order_sound c line (Start timer) now within h =
           (room (count_on line (without line timer c.running)) c.places (rest.in_places line) (sym (finds_place-without c line timer (h.in_places line)) ∙ found)) rest
       | false ↦ λ _. h
     ]) refl
-
--- each timer falls due some time, also one that is started
-pub stop_in_time : (c : Timers) (line : ℕ) (timer : Timer) (now end : ℕ) → AllByRecursion (λ e. e.moment < end) c.running → AllByRecursion (λ e. e.moment < end) (with_order c line (Stop timer) now).running
-unfolding with_order
-stop_in_time c line timer now end h = All-filter (λ e. e.moment < end) _ c.running h
-
-pub start_in_time : (c : Timers) (line : ℕ) (timer : Timer) (now end : ℕ) → now + duration c.lengths timer < end → AllByRecursion (λ e. e.moment < end) c.running → AllByRecursion (λ e. e.moment < end) (with_order c line (Start timer) now).running
-unfolding with_order
-start_in_time c line timer now end soon h = grind (arith, All-put_in_order, All-filter)
 
 pub none_sound : (ls : Lengths) (lines places : ℕ) → AreInRange ls → IsSound (record { lines = lines; places = places; lengths = ls; running = [] })
 none_sound ls lines places range = grind arith

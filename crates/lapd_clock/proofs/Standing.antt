@@ -3,7 +3,7 @@ use Rattle.lapd_clock.proofs.Vocabulary.{◌≡◌, ℕ, zero, suc, ◌+◌, ◌
 use Rattle.lapd_clock.proofs.Vocabulary.{◌*◌, ◌/◌, get_or_default, get_or-map, map-set, Timer, Expiry, is_before, first_due, after_first_due, first_moment, never, put_in_order, in_order}
 use Rattle.std.proofs.lemmas.Nat.{div-mul-add}
 use Rattle.lapd_clock.proofs.First.{All-in_order}
-use Rattle.lapd_clock.proofs.Ordered.{put_in_order-first, All-put_in_order, All-filter}
+use Rattle.lapd_clock.proofs.Ordered.{put_in_order-first, All-filter}
 use Rattle.lapd_clock.proofs.StandsFor.{swap}
 use Rattle.lapd_clock.proofs.TimerOrder.{expiry_total}
 use Rattle.lapd_clock.specs.OwnPlaces.{expiry_of, expiries_of, place_before, is_running, timers_in, AreNotBefore, nothing, at, with_timer, without_timer, IsFirst, IsFirstUntil, IsTaken, AreOfLines}
@@ -63,7 +63,7 @@ set_later m n [] i p less own h = tt
 set_later m n (q ∷ qs) zero p less own h = (own, sooner m n (expiries_of qs) less h.1)
 set_later m n (q ∷ qs) (suc i) p less own h = (omega (arith, less, h.0), set_later m n qs i p less own h.1)
 
-All-timers : (P : Expiry → Type 0) (es : List Expiry) → AllByRecursion P es → AllByRecursion P (timers_in es)
+pub All-timers : (P : Expiry → Type 0) (es : List Expiry) → AllByRecursion P es → AllByRecursion P (timers_in es)
 All-timers P es h = All-in_order P (filter is_running es) (All-filter P is_running es h)
 
 -- where none falls due before a later moment, none is due
@@ -104,7 +104,7 @@ parted (x ∷ xs) (suc i) z within rest soon =
       | false ↦ later
     ])
 
-All-set : (P : Expiry → Type 0) (es : List Expiry) (i : ℕ) (z : Expiry) → P z → AllByRecursion P es → AllByRecursion P (set es i z)
+pub All-set : (P : Expiry → Type 0) (es : List Expiry) (i : ℕ) (z : Expiry) → P z → AllByRecursion P es → AllByRecursion P (set es i z)
 All-set P [] i z own h = tt
 All-set P (x ∷ xs) zero z own h = (own, h.1)
 All-set P (x ∷ xs) (suc i) z own h = (h.0, All-set P xs i z own h.1)

@@ -1,5 +1,5 @@
 -- The order in which timers fall due is total, and only equal ones tie.
-use Rattle.lapd_clock.proofs.Vocabulary.{◌≡◌, false, arith, Ordering, Equal, IsTotalOrder, IsStrictWeakOrder, nat_cmp, ordering_then, ordering_reverse, is_lt, nat_cmp_total, on_total, then_total, eq_by_cmp_equiv, ranks_by, exact_unsigned, Timer, kind_rank, tei_rank, service_rank, timer_cmp, is_same, Expiry, expiry_cmp, is_before, Held, held_before}
+use Rattle.lapd_clock.proofs.Vocabulary.{◌≡◌, false, arith, Ordering, Equal, IsTotalOrder, IsStrictWeakOrder, ordering_then, ordering_reverse, is_lt, nat_cmp_total, on_total, then_total, eq_by_cmp_equiv, ranks_by, exact_unsigned, Timer, kind_rank, tei_rank, service_rank, timer_cmp, is_same, Expiry, expiry_cmp, is_before}
 
 -- the orders are total,
 pub timer_total : IsTotalOrder timer_cmp
@@ -8,15 +8,9 @@ timer_total = then_total (on_total kind_rank nat_cmp_total) (then_total (on_tota
 pub expiry_total : IsTotalOrder expiry_cmp
 expiry_total = then_total (on_total (λ (e : Expiry). e.moment) nat_cmp_total) (then_total (on_total (λ (e : Expiry). e.line) nat_cmp_total) (on_total (λ (e : Expiry). e.timer) timer_total))
 
-held_total : IsTotalOrder (λ (a b : Held). ordering_then (nat_cmp a.moment b.moment) (timer_cmp a.timer b.timer))
-held_total = then_total (on_total (λ (h : Held). h.moment) nat_cmp_total) (on_total (λ (h : Held). h.timer) timer_total)
-
 -- so that going first is a strict weak order
 pub before_order : IsStrictWeakOrder is_before
 before_order = ranks_by expiry_total (λ (e : Expiry). e)
-
-pub held_order : IsStrictWeakOrder held_before
-held_order = ranks_by held_total (λ (h : Held). h)
 
 -- only equal ranks tie, and only equal timers have equal ranks
 then_equal : (r s : Ordering) → ordering_then r s ≡ Equal → (r ≡ Equal) × (s ≡ Equal)

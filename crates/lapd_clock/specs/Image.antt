@@ -6,7 +6,7 @@ use Rattle.lapd_clock.specs.Places.{in_order, on_line, IsOfCard}
 use Rattle.lapd_clock.specs.Sound.{IsSound}
 use Rattle.lapd_clock.specs.Timer.{Lengths, kind_rank, service_rank, tei_rank}
 use Rattle.lapd_clock.specs.Timers.{Expiry, Timers}
-use Rattle.lapd_clock.specs.declared.clock.line.Held.{Held}
+use Rattle.lapd_clock.specs.declared.held.Held.{Held}
 
 -- A timer that runs. One octet each: which it is, 0 for T200, 1 for T203, 2 for T201 and 3 for T202; the TEI of its link; and 1
 -- for packet mode. T201 and T202 have 0 there. Then, in eight octets, the moment at which it falls due.

@@ -1,5 +1,5 @@
--- When timers fall due. Read in this order: Timer, Timers, InOrder, Sound; then Moments and Given. Of a clock: Firsts, Places, Image
--- and Restoring. Of timers each in a place of its own: OwnPlaces, Bounds and MomentImage.
+-- When timers fall due. Read in this order: Timer, Timers, InOrder, Sound; then Moments and Given. Of timers each in a place of its
+-- own: Firsts, Places, OwnPlaces, Bounds and MomentImage. Of a clock: Image, Restoring and Kept.
 pub mod Timer
 pub mod Timers
 pub mod InOrder
@@ -11,5 +11,6 @@ pub mod Restoring
 pub mod Moments
 pub mod Given
 pub mod OwnPlaces
+pub mod Kept
 pub mod Bounds
 pub mod MomentImage

@@ -1,10 +1,11 @@
 -- What the places stand for: the set of the timers that run.
-use Rattle.std.specs.Prelude.{◌≡◌, ℕ, ◌+◌, ◌*◌, ◌/◌, ◌<◌, ◌≤◌, Bool, true, false, ◌&&◌, nat_lt, List, ◌∷◌, map, filter, length, get_or, set, All}
+use Rattle.std.specs.Prelude.{◌≡◌, ℕ, ◌+◌, ◌*◌, ◌/◌, ◌<◌, ◌≤◌, Bool, true, false, ◌&&◌, ◌⊎◌, nat_lt, List, ◌∷◌, map, filter, length, get_or, set, All}
 use Rattle.std.specs.List.{AllByRecursion}
 use Rattle.lapd_clock.specs.Firsts.{never}
 use Rattle.lapd_clock.specs.Timer.{Timer, T201}
 use Rattle.lapd_clock.specs.Timers.{Expiry, is_before, is_held, is_of}
 use Rattle.lapd_clock.specs.Places.{in_order}
+use Rattle.lapd_clock.specs.declared.held.Held.{Held}
 use Rattle.lapd_clock.specs.declared.moments.lead.Lead.{Lead}
 use Rattle.lapd_clock.specs.declared.moments.place.Place.{Place}
 
@@ -65,6 +66,25 @@ pub record RunsAt (place line : ℕ) (timer : Timer) (es : List Expiry) : Type 0
 
 abbrev pub is_nowhere : ℕ → Timer → List Expiry → Type 0
 is_nowhere line timer es = is_held line timer (timers_in es) ≡ false
+
+-- No timer runs at a place of a line; or at each of the line one does.
+pub record RestsAt (place line : ℕ) (es : List Expiry) : Type 0 where
+  pub within : place < length es
+  pub its_line : (at place es).line ≡ line
+  pub rests : (at place es).moment ≡ never
+
+abbrev pub is_full : ℕ → List Expiry → Type 0
+is_full line es = (i : ℕ) → i < length es → (at i es).line ≡ line → (at i es).moment < never
+
+-- The place for a timer of a line: it runs there; or it runs nowhere, and no other runs there.
+abbrev pub IsPlaceFor : ℕ → ℕ → Timer → List Expiry → Type 0
+IsPlaceFor place line timer es = RunsAt place line timer es ⊎ (RestsAt place line es × is_nowhere line timer es)
+
+-- A timer runs at a place.
+pub record IsHeldAt (place : ℕ) (es : List Expiry) (h : Held) : Type 0 where
+  pub runs : (at place es).moment < never
+  pub moment_is : h.moment ≡ (at place es).moment
+  pub timer_is : h.timer ≡ (at place es).timer
 
 -- A timer that runs at a place is started anew there.
 pub record IsRestarted (line : ℕ) (timer : Timer) (moment : ℕ) (old new : List Expiry) : Type 0 where

@@ -7,7 +7,7 @@ use Rattle.lapd_clock.specs.Image.{lengths, timer}
 use Rattle.lapd_clock.specs.Places.{expiry_on}
 use Rattle.lapd_clock.specs.Timer.{Lengths, Timer, AreInRange, kind_rank, service_rank, tei_rank}
 use Rattle.lapd_clock.specs.Timers.{Timers, count_on, is_held, with_expiry}
-use Rattle.lapd_clock.specs.declared.clock.line.Held.{Held}
+use Rattle.lapd_clock.specs.declared.held.Held.{Held}
 
 -- One that a clock can hold.
 pub record IsTimer (h : Held) : Type 0 where

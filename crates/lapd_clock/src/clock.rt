@@ -4,17 +4,14 @@ ghost use Rattle.std.specs.Prelude.{◌≡◌, false, ◌^◌, ◌<◌, ◌≤�
 ghost use Rattle.lapd_clock.specs.Timers.{idle, idle_with, with_lengths, finds_place, with_order, due_at, after_due, next_moment};
 ghost use Rattle.lapd_clock.specs.Sound.{IsSound, IsLeastDue};
 
-mod firsts;
-mod line;
 mod restored;
 mod saved;
 
 use crate::fault::StartFault;
 use crate::lengths::Lengths;
+use crate::moments::Moments;
 use crate::timers::NEVER;
-use firsts::Firsts;
 use lapd_frame::{Order, Timer};
-use line::{Held, earliest_of, start, stop, take_first};
 use std::alloc::Global;
 use std::marker::Model;
 
@@ -24,10 +21,11 @@ use std::marker::Model;
 /// memory.
 #[derive(Debug, Drop)]
 pub struct Clock {
+    lines: usize,
+    /// How many timers may run on a line.
     places: usize,
     lengths: Lengths,
-    lines: Vec<Vec<Held>>,
-    firsts: Firsts,
+    moments: Moments,
 }
 
 impl Model for Clock {
@@ -35,12 +33,12 @@ impl Model for Clock {
 
     ghost Value = { Timers };
 
-    ghost use Rattle.lapd_clock.specs.Places.{timers_in, IsKept};
+    ghost use Rattle.lapd_clock.specs.Kept.{clock_of, IsKept};
     ghost use Rattle.lapd_clock.specs.Given.{lengths_of};
 
-    ghost view = { λ a. timers_in (lengths_of a.lengths) a.places a.lines.items };
+    ghost view = { λ a. clock_of (lengths_of a.lengths) a.lines a.places a.moments };
 
-    ghost invariant = { λ a. IsKept (lengths_of a.lengths) a.places a.firsts a.lines.items };
+    ghost invariant = { λ a. IsKept (lengths_of a.lengths) a.lines a.places a.moments };
 }
 
 impl Clock {
@@ -80,19 +78,14 @@ impl Clock {
         ensures sound { IfOk result IsSound }
     {
         let places = 4 * terminals + 1;
-        let Ok(firsts) = Firsts::start(alloc, lines) else {
+        let Ok(moments) = Moments::of_places(alloc, lines, places) else {
             return Err(StartFault::OutOfMemory);
         };
-        let mut all = Vec::with_capacity(alloc, lines).map_err(|_| StartFault::OutOfMemory)?;
-        for _ in 0..lines {
-            let line = Vec::with_capacity(alloc, places).map_err(|_| StartFault::OutOfMemory)?;
-            all.push(line).map_err(|_| StartFault::OutOfMemory)?;
-        }
         Ok(Clock {
+            lines,
             places,
             lengths,
-            lines: all,
-            firsts,
+            moments,
         })
     }
 
@@ -108,7 +101,7 @@ impl Clock {
     pub fn lines(&self) -> usize
         ensures { result ≡ self.now.lines }
     {
-        self.lines.len()
+        self.lines
     }
 
     /// Carries out an order for a timer of a line at the moment `now`, at most `2^63` ms.
@@ -132,19 +125,19 @@ impl Clock {
     {
         match order {
             Order::Start(timer) => {
+                let Some(place) = self.moments.place_for(line, timer) else {
+                    return false;
+                };
                 let moment = now + self.lengths.of(timer);
-                let running = &mut self.lines[line];
-                let is_placed = start(running, self.places, Held { moment, timer });
-                self.firsts.set(line, earliest_of(running));
-                is_placed
+                self.moments.start(place, timer, moment);
             }
             Order::Stop(timer) => {
-                let running = &mut self.lines[line];
-                stop(running, timer);
-                self.firsts.set(line, earliest_of(running));
-                true
+                if let Some(place) = self.moments.find(line, timer) {
+                    self.moments.stop(place);
+                }
             }
         }
+        true
     }
 
     /// Takes out the timer that falls due first, and answers it with its line, if its moment is not
@@ -166,15 +159,8 @@ impl Clock {
         ensures lengths { self.new.lengths ≡ self.old.lengths }
         ensures sound { IsSound self.new }
     {
-        let first = self.next()?;
-        if now < first {
-            return None;
-        }
-        let line = self.firsts.leader();
-        let running = &mut self.lines[line];
-        let held = take_first(running);
-        self.firsts.set(line, earliest_of(running));
-        Some((line, held.timer))
+        // Each falls due before `NEVER`.
+        self.moments.due(now.min(NEVER - 1))
     }
 
     /// The moment, in milliseconds, of the timer that falls due first, due or not, and `None` if no
@@ -184,10 +170,6 @@ impl Clock {
         ensures least { IfSome result (λ moment. All (λ held. moment ≤ held.moment) self.now.running) }
         ensures sound { IsSound self.now }
     {
-        let earliest = self.firsts.earliest();
-        if earliest == NEVER {
-            return None;
-        }
-        Some(earliest)
+        self.moments.soonest()
     }
 }

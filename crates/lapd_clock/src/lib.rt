@@ -2,19 +2,17 @@
 //!
 //! A line of LAPD has T200 and T203 for each link, so two of each for each
 //! terminal (one link for each service), and one T201 or, at a terminal, T202 (Q.921 clause 5.9). Its events order timers
-//! started and stopped. A `Clock` keeps the moment at which each running timer falls due, and
+//! started and stopped. `Moments` has a place for each timer that may run at a time, with the moment at which it falls due, and
 //! gives the timers back one after the other as their moments come. It reads no clock of its own:
-//! moments are numbers that its caller hands in, in milliseconds. It finds a timer by a look at those of its line.
-//! `Moments` does the same for a caller who knows the place of each timer: it starts and stops it there. Only
-//! if that was the first of its line does it look at the others of the line.
+//! moments are numbers that its caller hands in, in milliseconds. Its caller starts and stops a timer at its place. Only
+//! if that was the first of its line does it look at the others of the line. A `Clock` is for a caller who knows no places: it looks
+//! for that of a timer among those of its line. It also knows how long timers run.
 //!
-//! - `clock`: `Clock`, the running timers of all lines. `clock::line`: those of one line. `clock::firsts`: when the first of
-//!   each line falls due, and which line's is the first of all. `clock::saved`: a clock in an image.
-//!   `clock::restored`: a clock from one.
-//! - `moments`: `Moments`, a place for each timer of each link of each line, and for each line's T201 and T202.
-//!   `moments::place`: one place. `moments::lead`: which place of a line falls due first, when one changes. `moments::look`:
+//! - `clock`: `Clock`, the running timers of all lines. `clock::saved`: a clock in an image. `clock::restored`: a clock from one.
+//! - `moments`: `Moments`, the places of all lines. `moments::place`: one place. `moments::any_place`: which place of a line is
+//!   that of a timer. `moments::lead`: which place of a line falls due first, when one changes. `moments::look`:
 //!   which of the card does. `moments::saved`: the moment of a place in an image.
-//! - `lengths`: `Lengths`, how long the timers run. `timers`: which of them goes first at one moment.
+//! - `held`: a timer that runs. `lengths`: `Lengths`, how long the timers run. `timers`: which of them goes first at one moment.
 //! - `fault`: `StartFault` and `ImageFault`, why there is no clock, and `LengthFault`, which timer cannot run so long.
 //! - `laws`: what an order does to the moments of all timers.
 //!
@@ -23,12 +21,13 @@
 //!
 //! # Cost
 //!
-//! All memory of a `Clock` is taken by `Clock::start` or `Clock::start_with`: for each line `4 * terminals + 1` places and two
-//! moments; that of `Moments` by `Moments::idle`: `4 * terminals + 2` places and a moment. Of a `Clock`,
-//! `next`, and `due` if none is due, look at one moment, whatever the lines. `apply` goes over the timers of its one line,
-//! twice, and where their first falls due at another moment, up a tree over the lines as far as that changes what is
-//! first: six steps at most for 64 lines. A timer that is started again keeps its place, and no other moves. If one is
-//! due, `due` also goes over the lines once, until it finds whose it is.
+//! All memory of a `Clock` is taken by `Clock::start` or `Clock::start_with`: for each line `4 * terminals + 1` places, a
+//! moment, and which place is its first. That of `Moments` is taken by `Moments::idle`: the same, and one place more a line. If
+//! none is due, `due` looks at one moment, whatever the lines. Only if the timer that was first has been started anew or stopped,
+//! the first `due` after its moment looks at a moment of each line, and until then so does each `next`. `apply` goes
+//! over the places of its one line until it finds that of the timer. If the timer runs at none, it goes on to the first free one, and
+//! if it was the first of the line, once more over all. A timer that is started again keeps its place, and no other
+//! moves. If one is due, `due` also looks at a moment of each line, and goes over the places of its line.
 //!
 //! # Only tested
 //!
@@ -37,6 +36,7 @@
 
 mod clock;
 mod fault;
+mod held;
 mod laws;
 mod lengths;
 mod moments;

@@ -3,8 +3,9 @@
 ghost use Rattle.std.specs.Prelude.{◌≡◌, ◌+◌, ◌*◌, ◌<◌, ◌≤◌, true, false, None, length, IfSome, IfNone, IfOk};
 ghost use Rattle.lapd_clock.specs.Timers.{first_due, first_moment};
 ghost use Rattle.lapd_clock.specs.Firsts.{never};
-ghost use Rattle.lapd_clock.specs.OwnPlaces.{timers_in, with_timer, without_timer, AreNotBefore, IsExchanged, IsFirstUntil, IsRestarted, IsTaken, RunsAt, is_nowhere};
+ghost use Rattle.lapd_clock.specs.OwnPlaces.{timers_in, with_timer, without_timer, AreNotBefore, IsExchanged, IsFirstUntil, IsRestarted, IsTaken};
 
+mod any_place;
 mod lead;
 mod look;
 mod place;
@@ -14,7 +15,7 @@ use crate::timers::NEVER;
 use lapd_frame::Timer;
 use lead::{Lead, first_places, lead_after, put_sooner};
 use look::{first_line, look};
-use place::{Place, beside, running_place};
+use place::{Place, beside};
 use std::alloc::{AllocError, Global};
 use std::marker::Model;
 
@@ -65,7 +66,16 @@ impl Moments {
         requires terminals { terminals ≤ 8 }
         ensures { IfOk result (λ moments. AreIdle lines (4 * terminals + 2) moments) }
     {
-        let each = 4 * terminals + 2;
+        Moments::of_places(alloc, lines, 4 * terminals + 2)
+    }
+
+    /// So many places of each line, at which no timer runs.
+    pub(crate) fn of_places(alloc: Global, lines: usize, each: usize) -> Result<Moments, AllocError>
+        requires lines { lines ≤ 64 }
+        requires some { 1 ≤ each }
+        requires few { each ≤ 34 }
+        ensures { IfOk result (AreIdle lines each) }
+    {
         let bounds = vec![in alloc; NEVER; lines]?;
         let leads = first_places(alloc, lines, each)?;
         let mut places = Vec::with_capacity(alloc, lines * each)?;
@@ -189,15 +199,6 @@ impl Moments {
         }
     }
 
-    /// The place at which a timer of a line runs, if it runs at any: it looks through all places.
-    #[cold]
-    pub fn find(&self, line: usize, timer: Timer) -> Option<usize>
-        ensures found { IfSome result (λ place. RunsAt place line timer self.now) }
-        ensures none { IfNone result (is_nowhere line timer self.now) }
-    {
-        running_place(&self.places, line, timer)
-    }
-
     /// Whether no timer has fallen due until now, as is known without a look. Otherwise [`Moments::due`] tells.
     #[inline(always)]
     pub fn is_early(&self, now: u64) -> bool
@@ -241,6 +242,22 @@ impl Moments {
     {
         let place = self.first(NEVER - 1)?;
         Some(self.places[place].moment)
+    }
+
+    /// The same, of which nothing is kept: unless the line that was found last is still the first, the least moments of all lines
+    /// are looked through.
+    pub(crate) fn soonest(&self) -> Option<u64>
+        ensures { result ≡ first_moment (timers_in self.now) }
+    {
+        if self.bounds.len() == 0 {
+            return None;
+        }
+        let line = first_line(&self.bounds, self.not_before, self.found);
+        let moment = self.bounds[line];
+        if moment == NEVER {
+            return None;
+        }
+        Some(moment)
     }
 
     /// Which place falls due first, if one does so until `end`. No timer falls due before what is kept then.

@@ -1,15 +1,12 @@
 -- An event with its orders: how they begin to be carried out, and what stands when all are.
-use Rattle.std.proofs.Common.{arith, ◌≡◌, inl, inr, ℕ, zero, suc, ◌*◌, ◌<◌, Bool, true, false, cond, List, [], ◌∷◌, length, filter, Option, Some, None, refl, sym, ap, ◌∙◌, subst}
+use Rattle.std.proofs.Common.{◌≡◌, inl, inr, ℕ, ◌*◌, ◌<◌, true, false, Option, Some, None, refl, sym, ap, ◌∙◌, subst}
 use Rattle.std.proofs.lemmas.Bool.{false≢true}
-use Rattle.std.specs.List.{AllByRecursion}
 use Rattle.lapd_clock.specs.Firsts.{never}
-use Rattle.lapd_clock.specs.Timer.{Timer}
-use Rattle.lapd_clock.specs.Timers.{Expiry, is_held, is_of}
-use Rattle.lapd_clock.proofs.Once.{All-from_in_order}
+use Rattle.lapd_clock.specs.Timers.{is_held}
 use Rattle.lapd_frame.specs.declared.services.Service.{Service}
 use Rattle.lapd_timed.specs.OfCard.{slot_of, line_slot_of, timer_of}
-use Rattle.lapd_clock.specs.OwnPlaces.{is_running, timers_in, at, RunsAt}
-use Rattle.lapd_clock.proofs.OwnPlace.{none_held}
+use Rattle.lapd_clock.specs.OwnPlaces.{is_running, timers_in, at}
+use Rattle.lapd_clock.proofs.OwnPlace.{runs-held}
 use Rattle.lapd_clock.proofs.Again.{itself}
 use Rattle.lapd_timed.proofs.OfCard.{holds_moved}
 use Rattle.lapd_clock.proofs.Standing.{runs}
@@ -28,26 +25,6 @@ use Rattle.model_timed.specs.RunTheSame.{RunAs, left_by, as_they_are}
 use Rattle.model_timed.proofs.Running.{run-on, timed-reached}
 use Rattle.lapd_timed.specs.Stands.{IsOn, IsOnAmid, HeldTimers, AreAt, AreKept}
 use Rattle.lapd_timed.proofs.Carrying.{apart}
-
--- what runs at a place is in the set
-falsely : (line : ℕ) (timer : Timer) (es : List Expiry) (i : ℕ) → AllByRecursion (λ e. is_of line timer e ≡ false) (filter is_running es) → (at i es).moment < never → i < length es
-    → is_of line timer (at i es) ≡ false
-falsely line timer [] i all soon within = absurd (omega (arith, within))
-falsely line timer (e ∷ es) zero all soon within =
-    (subst (λ b. AllByRecursion (λ e. is_of line timer e ≡ false) (cond b (e ∷ filter is_running es) (filter is_running es))) (runs e soon) all).0
-falsely line timer (e ∷ es) (suc i) all soon within = falsely line timer es i (rest (is_running e) all) soon (omega (arith, within))
-  where
-    rest : (b : Bool) → AllByRecursion (λ e. is_of line timer e ≡ false) (cond b (e ∷ filter is_running es) (filter is_running es)) → AllByRecursion (λ e. is_of line timer e ≡ false) (filter is_running es)
-    rest true all = all.1
-    rest false all = all
-
-pub runs-held : (line : ℕ) (timer : Timer) (es : List Expiry) (i : ℕ) → RunsAt i line timer es → is_held line timer (timers_in es) ≡ true
-runs-held line timer es i found = go (is_held line timer (timers_in es)) refl
-  where
-    go : (b : Bool) → is_held line timer (timers_in es) ≡ b → is_held line timer (timers_in es) ≡ true
-    go true e = e
-    go false e = absurd (false≢true
-        (sym (falsely line timer es i (All-from_in_order (λ e. is_of line timer e ≡ false) (filter is_running es) (none_held line timer (timers_in es) e)) found.runs found.within) ∙ found.its))
 
 -- a timer of a link that runs at its line is of a TEI that is on it
 placed-at : (service : Service) (k : LinkTimer) (o : Option ℕ) (l : Line) → line.runs_at service k o l ≡ true → (p : ℕ) × (o ≡ Some p)

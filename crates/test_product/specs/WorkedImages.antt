@@ -4,7 +4,7 @@ use Rattle.lapd_clock.specs.Image as clocks
 use Rattle.lapd_clock.specs.Places.{in_order}
 use Rattle.lapd_clock.specs.Timer.{T200, T203, T201, T202, Call, Packet}
 use Rattle.lapd_clock.specs.Timers.{Timers}
-use Rattle.lapd_clock.specs.declared.clock.line.Held.{Held}
+use Rattle.lapd_clock.specs.declared.held.Held.{Held}
 use Rattle.lapd_count.specs.Counters.{most, none_counted, with_all}
 use Rattle.lapd_count.specs.Image.{counters}
 use Rattle.lapd_count.specs.declared.counter.Counter.TheVariants.{Frames, Octets, Lost, Messages}

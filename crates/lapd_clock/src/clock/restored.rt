@@ -10,9 +10,9 @@ ghost use Rattle.lapd_image.specs.Numbers.{list_of};
 ghost use Rattle.lapd_image.specs.Reads.{HasNone, IsReadAs};
 
 use super::Clock;
-use super::line::{Held, add, earliest_of};
 use super::saved::HEAD;
 use crate::fault::ImageFault;
+use crate::held::Held;
 use crate::lengths::Lengths;
 use crate::timers::NEVER;
 use lapd_frame::{LAST_TEI, Service, Timer};
@@ -57,7 +57,7 @@ impl Clock {
         ensures read { OnOk result (ReadsLines reader.old reader.new self.old self.new) }
         ensures none { OnErr result (HasNoLines reader.old self.old) }
     {
-        for line in 0..self.lines.len() {
+        for line in 0..self.lines {
             self.read_line(line, reader)?;
         }
         Ok(())
@@ -101,11 +101,13 @@ impl Clock {
         ensures refused { result ≡ false → IsFree self.old line held → ⊥ }
         ensures lines { self.new.lines ≡ self.old.lines }
     {
-        let running = &mut self.lines[line];
-        if !add(running, self.places, held) {
+        if let Some(_place) = self.moments.find(line, held.timer) {
             return false;
         }
-        self.firsts.set(line, earliest_of(running));
+        let Some(place) = self.moments.free(line) else {
+            return false;
+        };
+        self.moments.start(place, held.timer, held.moment);
         true
     }
 }

@@ -1,16 +1,19 @@
 //! A clock in an image.
 
-ghost use Rattle.std.specs.Prelude.{◌≡◌, ◌≤◌, List, length};
+ghost use Rattle.std.specs.Prelude.{◌≡◌, ◌+◌, ◌*◌, ◌<◌, ◌≤◌, List, filter, flat_map, length};
 ghost use Rattle.lapd_clock.specs.Given.{lengths_of};
 ghost use Rattle.lapd_clock.specs.Image.{image, lengths, most_octets, timer, AreItsTimers};
+ghost use Rattle.lapd_clock.specs.Kept.{held_by_lines, held_on, places_from, timer_at};
+ghost use Rattle.lapd_clock.specs.OwnPlaces.{at as place_at, is_running};
 ghost use Rattle.lapd_clock.specs.Timer.{kind_rank, rank_of_service, service_rank, tei_rank};
-ghost use Rattle.lapd_clock.specs.declared.clock.line.Held.{Held as Running};
+ghost use Rattle.lapd_clock.specs.declared.held.Held.{Held as Running};
 ghost use Rattle.lapd_image.specs.Numbers.{list_of};
 ghost use Rattle.lapd_image.specs.Puts.{Puts};
 
 use super::Clock;
-use super::line::Held;
+use crate::held::Held;
 use crate::lengths::Lengths;
+use crate::moments::Moments;
 use lapd_frame::{Service, Timer};
 use lapd_image::{put_number, put_octet, put_octets};
 
@@ -22,7 +25,7 @@ impl Clock {
     pub fn image_octets(&self) -> usize
         ensures { result ≡ most_octets self.now }
     {
-        24 + self.lines.len() * (1 + 11 * self.places)
+        24 + self.lines * (1 + 11 * self.places)
     }
 
     /// Writes its image in front of a room, and answers how many octets it has. What does not fit is left out.
@@ -30,13 +33,10 @@ impl Clock {
         ensures { (lines : List (List Running)) × AreItsTimers self.now lines × Puts (image self.now lines) 0 out.old result out.new }
     {
         let mut end = put_octets(out, 0, &HEAD);
-        end = put_octet(out, end, self.lines.len() as u8);
+        end = put_octet(out, end, self.lines as u8);
         end = put_octet(out, end, (self.places / 4) as u8);
         end = put_lengths(self.lengths, out, end);
-        for line in &self.lines {
-            end = put_line(line, out, end);
-        }
-        end
+        put_lines(&self.moments, self.places, self.lines, out, end)
     }
 }
 
@@ -52,17 +52,64 @@ fn put_lengths(of: Lengths, out: &mut [u8], at: usize) -> usize
     put_number(out, end, 4, of.of(Timer::T202))
 }
 
-// The list of the timers of a line that run.
-fn put_line(line: &[Held], out: &mut [u8], at: usize) -> usize
-    requires few { length line.now ≤ 255 }
+// The timers of so many lines, each of so many places.
+fn put_lines(moments: &Moments, places: usize, lines: usize, out: &mut [u8], at: usize) -> usize
+    requires few { places ≤ 33 }
+    requires lines { lines ≤ 64 }
+    requires there { lines * places ≤ length moments.now }
     requires within { at ≤ length out.old }
-    ensures { Puts (list_of timer line.now) at out.old result out.new }
+    ensures { Puts (flat_map (list_of timer) (held_by_lines places lines moments.now)) at out.old result out.new }
 {
-    let mut end = put_octet(out, at, line.len() as u8);
-    for held in line {
-        end = put_timer(held, out, end);
+    let mut end = at;
+    for line in 0..lines {
+        end = put_line(moments, places, line, out, end);
     }
     end
+}
+
+// The list of the timers of a line that run.
+fn put_line(moments: &Moments, places: usize, line: usize, out: &mut [u8], at: usize) -> usize
+    requires few { places ≤ 33 }
+    requires line { line < 64 }
+    requires there { line * places + places ≤ length moments.now }
+    requires within { at ≤ length out.old }
+    ensures { Puts (list_of timer (held_on places line moments.now)) at out.old result out.new }
+{
+    let begin = line * places;
+    let mut end = put_octet(out, at, count(moments, places, line));
+    for offset in 0..places {
+        end = put_place(moments, begin + offset, out, end);
+    }
+    end
+}
+
+// At how many places of a line timers run.
+fn count(moments: &Moments, places: usize, line: usize) -> u8
+    requires few { places ≤ 33 }
+    requires line { line < 64 }
+    requires there { line * places + places ≤ length moments.now }
+    ensures { result ≡ length (filter is_running (places_from (line * places) places moments.now)) }
+{
+    let begin = line * places;
+    let mut running = 0;
+    for offset in 0..places {
+        if let Some(_held) = moments.held(begin + offset) {
+            running += 1;
+        }
+    }
+    running
+}
+
+// What runs at a place, if a timer does.
+fn put_place(moments: &Moments, place: usize, out: &mut [u8], at: usize) -> usize
+    requires place { place < length moments.now }
+    requires within { at ≤ length out.old }
+    ensures { Puts (timer_at (place_at place moments.now)) at out.old result out.new }
+{
+    match moments.held(place) {
+        Some(held) => put_timer(&held, out, at),
+        None => at,
+    }
 }
 
 // A timer that runs.

@@ -1,43 +1,44 @@
--- Where none falls due, or the first does later, nothing changes; else the first of the set is that of the line that leads.
-use Rattle.lapd_clock.proofs.Vocabulary.{set, sym, ap, ◌∙◌, earliest_of}
-use Rattle.lapd_clock.proofs.Calls.{none_due, not_due, has_one, one_due, least, after_first, kept_after}
+-- The first of the places is the first of the set.
+use Rattle.lapd_clock.proofs.Vocabulary.{◌≡◌, ◌-◌, ◌<◌, min, arith, lengths_of, never, recursion_from_All, Expiry}
+use Rattle.lapd_clock.proofs.Calls as calls
+use Rattle.lapd_clock.proofs.Kept.{after_is, due_is, kept_then, sound_then}
 use Rattle.lapd_clock.proofs.clock.Clock.due.Goals as goal
 
-pub returns-in_err-first-clause-due : goal.returns-in_err-first-clause-due
-returns-in_err-first-clause-due c = c.from_residual.ensures ∙ sym (none_due _ _ _ _ _ c.self.view_is c.self.invariant c.args.now (sym c.next.ensures.next ∙ c.in_err-first.was)).none
-
-pub returns-then-now-first-clause-due : goal.returns-then-now-first-clause-due
-returns-then-now-first-clause-due c = sym (not_due _ _ _ _ _ c.self.view_is c.self.invariant c.args.now c.in_ok-first.first (sym c.next.ensures.next ∙ c.in_ok-first.was) c.if-now-first.true).none
-
-pub take_first-held-requires : goal.take_first-held-requires
-take_first-held-requires c =
-    has_one _ _ _ _ _ c.self.view_is c.self.invariant c.args.now c.in_ok-first.first c.leader-line.result (sym c.next.ensures.next ∙ c.in_ok-first.was) c.if-now-first.false
-    c.leader-line.ensures.line c.leader-line.ensures.is c.index_mut-running.result.now c.index_mut-running.ensures.value
+until : (c : goal.After-due) → c.min.result ≡ min c.args.now (never - 1)
+until c = omega (arith, c.min.ensures)
 
 pub invariant_of-self : goal.invariant_of-self
 invariant_of-self c =
-    kept_after _ _ _ _ _ c.self.view_is c.self.invariant c.args.now c.in_ok-first.first c.leader-line.result (sym c.next.ensures.next ∙ c.in_ok-first.was) c.if-now-first.false
-    c.leader-line.ensures.line c.leader-line.ensures.is c.index_mut-running.result.now c.index_mut-running.ensures.value
-    c.take_first-held.result c.take_first-held.new.running c.take_first-held.ensures.taken c.take_first-held.ensures.first c.leader-line.ensures.first
-    c.set.new.self (c.set.ensures.after ∙ ap (set c.self.inside.firsts c.leader-line.result) (c.earliest_of.ensures ∙ ap earliest_of c.deref.ensures.value)) c.take_first-held.ensures.fewer c.take_first-held.ensures.capacity
+    kept_then (lengths_of c.self.inside.lengths) c.self.inside.lines c.self.inside.places c.self.inside.moments c.due.new.self c.args.self.now c.self.view_is c.self.invariant c.args.now c.min.result (until c)
+    c.due.result c.due.ensures.due c.due.ensures.taken c.due.ensures.unchanged
 
 pub returns-clause-due : goal.returns-clause-due
 returns-clause-due c =
-    sym (one_due _ _ _ _ _ c.self.view_is c.self.invariant c.args.now c.in_ok-first.first c.leader-line.result (sym c.next.ensures.next ∙ c.in_ok-first.was) c.if-now-first.false
-    c.leader-line.ensures.line c.leader-line.ensures.is c.index_mut-running.result.now c.index_mut-running.ensures.value
-    c.take_first-held.result c.take_first-held.new.running c.take_first-held.ensures.taken c.take_first-held.ensures.first c.leader-line.ensures.first)
+    due_is (lengths_of c.self.inside.lengths) c.self.inside.lines c.self.inside.places c.self.inside.moments c.due.new.self c.args.self.now c.self.view_is c.self.invariant c.args.now c.min.result (until c)
+    c.due.result c.due.ensures.due c.due.ensures.taken c.due.ensures.unchanged
 
 pub returns-clause-after : goal.returns-clause-after
 returns-clause-after c =
-    after_first _ _ _ _ _ c.self.view_is c.self.invariant c.args.now c.in_ok-first.first c.leader-line.result (sym c.next.ensures.next ∙ c.in_ok-first.was) c.if-now-first.false
-    c.leader-line.ensures.line c.leader-line.ensures.is c.index_mut-running.result.now c.index_mut-running.ensures.value
-    c.take_first-held.result c.take_first-held.new.running c.take_first-held.ensures.taken c.take_first-held.ensures.first c.leader-line.ensures.first
+    after_is (lengths_of c.self.inside.lengths) c.self.inside.lines c.self.inside.places c.self.inside.moments c.due.new.self c.args.self.now c.self.view_is c.self.invariant c.args.now c.min.result (until c)
+    c.due.result c.due.ensures.due c.due.ensures.taken c.due.ensures.unchanged
 
 pub returns-clause-least : goal.returns-clause-least
 returns-clause-least c =
-    least _ _ _ _ _ c.self.view_is c.self.invariant c.args.now c.in_ok-first.first c.leader-line.result (sym c.next.ensures.next ∙ c.in_ok-first.was) c.if-now-first.false
-    c.leader-line.ensures.line c.leader-line.ensures.is c.index_mut-running.result.now c.index_mut-running.ensures.value
-    c.take_first-held.result c.take_first-held.new.running c.take_first-held.ensures.taken c.take_first-held.ensures.first c.leader-line.ensures.first
+    let sound = sound_then (lengths_of c.self.inside.lengths) c.self.inside.lines c.self.inside.places c.self.inside.moments c.due.new.self c.args.self.now c.self.view_is c.self.invariant c.args.now c.min.result (until c)
+    c.due.result c.due.ensures.due c.due.ensures.taken c.due.ensures.unchanged in
+    calls.least c.args.self.now c.args.now sound c.args.self.now.running (λ _. c.args.self.now.running) c.due.result (returns-clause-due c)
+
+pub returns-clause-none : goal.returns-clause-none
+returns-clause-none c =
+    let sound = sound_then (lengths_of c.self.inside.lengths) c.self.inside.lines c.self.inside.places c.self.inside.moments c.due.new.self c.args.self.now c.self.view_is c.self.invariant c.args.now c.min.result (until c)
+    c.due.result c.due.ensures.due c.due.ensures.taken c.due.ensures.unchanged in
+    calls.none c.args.self.now c.args.now sound c.args.self.now.running sound.in_order c.due.result (returns-clause-due c)
+
+pub returns-clause-line : goal.returns-clause-line
+returns-clause-line c =
+    let sound = sound_then (lengths_of c.self.inside.lengths) c.self.inside.lines c.self.inside.places c.self.inside.moments c.due.new.self c.args.self.now c.self.view_is c.self.invariant c.args.now c.min.result (until c)
+    c.due.result c.due.ensures.due c.due.ensures.taken c.due.ensures.unchanged in
+    calls.of_line c.args.self.now c.args.now sound c.args.self.now.running (recursion_from_All (λ (e : Expiry). e.line < c.args.self.now.lines) c.args.self.now.running sound.on_lines) c.due.result (returns-clause-due c)
 
 pub returns-clause-sound : goal.returns-clause-sound
 returns-clause-sound c = (invariant_of-self c).sound

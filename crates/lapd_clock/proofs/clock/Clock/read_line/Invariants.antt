@@ -5,7 +5,7 @@ use Rattle.lapd_image.specs.Reads.{IsReadAs}
 use Rattle.lapd_clock.specs.Image.{timer}
 use Rattle.lapd_clock.specs.Restoring.{AreFree, with_line}
 use Rattle.lapd_clock.specs.Timers.{Timers}
-use Rattle.lapd_clock.specs.declared.clock.line.Held.{Held}
+use Rattle.lapd_clock.specs.declared.held.Held.{Held}
 use Rattle.lapd_clock.proofs.clock.Clock.read_line.Given as goal
 
 -- so many timers are read, and run

@@ -16,7 +16,7 @@ loop-line-init c = record { lists = []; many = refl; read = read-none (list_of t
 pub read_line-requires : goal.read_line-requires
 read_line-requires c =
     let lines = ap (λ (t : Timers). t.lines) c.self.view_is in
-    omega (arith, c.loop-line-test.true, c.len-line-end.ensures, c.self.inside.lines.ok.0, lines, c.loop-line.invariant.lines)
+    omega (arith, c.loop-line-test.true, lines, c.loop-line.invariant.lines)
 
 pub returns-in_err-read_line-clause-none : goal.returns-in_err-read_line-clause-none
 returns-in_err-read_line-clause-none c =
@@ -28,7 +28,7 @@ returns-in_err-read_line-clause-none c =
     none-more (list_of timer) (All IsTimer) list-of-timers (AreFreeLines old 0) (lines-kept old 0) done c.loop-line.invariant.read
     (λ hs rest free e. c.in_err-read_line.ensures.none hs rest
     (subst (λ (n : ℕ). AreFree c.loop-line.self n hs) c.loop-line.invariant.many (subst (λ (t : Timers). AreFree t (length done) hs) (sym c.loop-line.invariant.run) (all_free-last old done hs free))) e)
-    lines rest (omega (arith, many, c.loop-line-test.true, c.len-line-end.ensures, c.self.inside.lines.ok.0, size, c.loop-line.invariant.many)) free e)
+    lines rest (omega (arith, many, c.loop-line-test.true, size, c.loop-line.invariant.many)) free e)
 
 pub loop-line-preserved : goal.loop-line-preserved
 loop-line-preserved c =
@@ -50,4 +50,4 @@ loop-line-preserved c =
 pub returns-clause-read : goal.returns-clause-read
 returns-clause-read c =
     let size = ap (λ (t : Timers). t.lines) c.self.view_is in
-    (c.loop-line.invariant.lists, omega (arith, c.loop-line-test.false, c.loop-line.auto.line-end, c.len-line-end.ensures, c.self.inside.lines.ok.0, size, c.loop-line.invariant.many), c.loop-line.invariant.read, c.loop-line.invariant.run)
+    (c.loop-line.invariant.lists, omega (arith, c.loop-line-test.false, c.loop-line.auto.line-end, size, c.loop-line.invariant.many), c.loop-line.invariant.read, c.loop-line.invariant.run)

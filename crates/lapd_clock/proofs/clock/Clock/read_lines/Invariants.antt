@@ -6,7 +6,7 @@ use Rattle.lapd_image.specs.Reads.{IsReadAs}
 use Rattle.lapd_clock.specs.Image.{timer}
 use Rattle.lapd_clock.specs.Restoring.{AreFreeLines, with_lines}
 use Rattle.lapd_clock.specs.Timers.{Timers}
-use Rattle.lapd_clock.specs.declared.clock.line.Held.{Held}
+use Rattle.lapd_clock.specs.declared.held.Held.{Held}
 use Rattle.lapd_clock.proofs.clock.Clock.read_lines.Given as goal
 
 -- the timers of so many lines are read, and run

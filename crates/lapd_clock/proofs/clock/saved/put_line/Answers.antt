@@ -1,20 +1,28 @@
 -- Hand-written answers for `put_line`.
-use Rattle.std.proofs.Common.{◌∷◌, add-one, length, take_all}
+use Rattle.std.proofs.Common.{◌*◌, ◌∷◌, ◌∙◌, add-one, arith, ap, filter, sym, take_all}
 use Rattle.std.specs.Prelude.{flat_map}
+use Rattle.std.proofs.lemmas.List.{length-map}
 use Rattle.lapd_image.proofs.Puts.{puts-next, puts-none, puts-same, puts-then}
-use Rattle.lapd_clock.specs.Image.{timer}
+use Rattle.lapd_clock.specs.Kept.{held_of, places_from, timer_at}
+use Rattle.lapd_clock.specs.OwnPlaces.{is_running, nothing}
+use Rattle.lapd_clock.proofs.Images.{at-offset, so-many, timers-at}
 use Rattle.lapd_clock.proofs.clock.saved.put_line.Goals as goal
 
-pub loop-held-init : goal.loop-held-init
-loop-held-init c = puts-none c.put_octet-end.ensures.within
+pub loop-offset-init : goal.loop-offset-init
+loop-offset-init c = puts-none c.put_octet-end.ensures.within
 
-pub put_timer-end-requires : goal.put_timer-end-requires
-put_timer-end-requires c = c.loop-held.invariant.within
-
-pub loop-held-preserved : goal.loop-held-preserved
-loop-held-preserved c = rw add-one (puts-next timer _ c.loop-held.held-index _ c.loop-held-test.true c.loop-held.invariant c.put_timer-end.ensures)
+pub loop-offset-preserved : goal.loop-offset-preserved
+loop-offset-preserved c =
+    let begin = c.args.line * c.args.places in
+    let its = places_from begin c.args.places c.args.moments.now in
+    rw add-one (puts-next timer_at its c.loop-offset.offset nothing (omega (arith, c.loop-offset-test.true, so-many begin c.args.places c.args.moments.now c.requires.there)) c.loop-offset.invariant
+    (puts-same (ap timer_at (sym (at-offset begin c.args.places c.loop-offset.offset c.args.moments.now (omega (arith, c.loop-offset-test.true))))) c.put_place-end.ensures))
 
 pub returns : goal.returns
 returns c =
-    let all = take_all c.loop-held.held-index c.args.line.now c.loop-held-test.false in
-    puts-same (λ i. length c.args.line.now ∷ flat_map timer (all i)) (puts-then c.put_octet-end.ensures c.loop-held.invariant)
+    let begin = c.args.line * c.args.places in
+    let its = places_from begin c.args.places c.args.moments.now in
+    let all = take_all c.loop-offset.offset its (omega (arith, c.loop-offset-test.false, so-many begin c.args.places c.args.moments.now c.requires.there)) in
+    let count = c.count.ensures ∙ sym (length-map (filter is_running its) held_of) in
+    let octets = ap (flat_map timer_at) all ∙ timers-at its in
+    puts-same (λ i. count i ∷ octets i) (puts-then c.put_octet-end.ensures c.loop-offset.invariant)

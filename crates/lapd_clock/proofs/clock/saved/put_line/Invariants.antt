@@ -2,8 +2,8 @@
 use Rattle.std.proofs.Common.{take}
 use Rattle.std.specs.Prelude.{flat_map}
 use Rattle.lapd_image.specs.Puts.{Puts}
-use Rattle.lapd_clock.specs.Image.{timer}
+use Rattle.lapd_clock.specs.Kept.{places_from, timer_at}
 use Rattle.lapd_clock.proofs.clock.saved.put_line.Given as goal
 
-abbrev pub invariant-loop-held : goal.invariant-loop-held
-invariant-loop-held l = Puts (flat_map timer (take l.held-index l.line)) l.initial.end l.initial.out l.end l.out
+abbrev pub invariant-loop-offset : goal.invariant-loop-offset
+invariant-loop-offset l = Puts (flat_map timer_at (take l.offset (places_from l.begin l.places l.moments))) l.initial.end l.initial.out l.end l.out

@@ -5,7 +5,6 @@
 //!
 //! - `help`: what it says of itself. `image`: reads an image. `restored`: what the card of an image tells,
 //!   in lines of `words`.
-//! - `tests` tries the simulator over sources and targets that give and take in pieces, or fail.
 //!
 //! # Only tested
 //!
@@ -20,8 +19,6 @@ ghost use Rattle.lapd_sim.specs.Plays.{Shows};
 mod help;
 mod image;
 mod restored;
-#[cfg(test)]
-mod tests;
 mod words;
 
 use crate::help::help;

@@ -1,6 +1,6 @@
 //! Lines in pieces, and long lines.
 
-use crate::tests::fakes::{ESTABLISHED, Pieces, TRANSCRIPT, plays};
+use crate::simulator::fakes::{ESTABLISHED, Pieces, TRANSCRIPT, plays};
 use std::alloc::Global;
 use std::test::Fail;
 

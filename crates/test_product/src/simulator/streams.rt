@@ -1,7 +1,7 @@
 //! Readers and writers of std as sources and targets.
 
-use crate::tests::fakes::{ESTABLISHED, Page, TRANSCRIPT};
-use crate::tests::worked::WORKED;
+use crate::simulator::fakes::{ESTABLISHED, Page, TRANSCRIPT};
+use crate::simulator::worked::WORKED;
 use lapd_sim::{
     FaultKind, PlayFault, ReadFailed, ReadFrom, Source, Target, WriteFailed, WriteTo, play,
     play_octets, refuse,

@@ -1,7 +1,7 @@
 //! Each read and each write failing in turn.
 
-use crate::tests::fakes::{ESTABLISHED, Page, Pieces, TRANSCRIPT, plays};
-use crate::tests::worked::{WORKED, Worked};
+use crate::simulator::fakes::{ESTABLISHED, Page, Pieces, TRANSCRIPT, plays};
+use crate::simulator::worked::{WORKED, Worked};
 use lapd_sim::{PlayFault, play, serve};
 use std::alloc::Global;
 

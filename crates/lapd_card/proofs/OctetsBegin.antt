@@ -1,5 +1,6 @@
 -- A card of octets as it begins.
-use Rattle.lapd_card.proofs.Vocabulary.{◌≡◌, ℕ, zero, suc, ◌<◌, List, [], ◌∷◌, length, replicate, get_or, refl, sym, ap, subst, ◌∙◌, arith, length-replicate, Option, None, Some, IfSome, AllByRecursion, Config, Store, Port, PortStands, PortsStand}
+use Rattle.lapd_card.proofs.Vocabulary.{◌≡◌, false≢true, ℕ, zero, suc, ◌<◌, List, [], ◌∷◌, length, replicate, get_or, refl, sym, ap, subst, ◌∙◌, arith, length-replicate, Option, None, Some, IfSome, Result, Ok, Err, IfOk, AllByRecursion, Config, Store, Port, PortStands, PortsStand}
+use Rattle.std.specs.Result.{IsErr}
 use Rattle.model_card.specs.ports.Card.{fresh, with_fresh_ports}
 use Rattle.model_card.specs.ports.Port.{fresh_port}
 use Rattle.model_card.proofs.OfPorts.Reaching.{reached_first}
@@ -14,6 +15,11 @@ use Rattle.lapd_card.specs.Stands.{OctetCardStands}
 pub no_fault : {F : Type 0} (A B : F → Type 0) (o : Option F) → ((f : F) → A f → ⊥) → IfSome o A → IfSome o B
 no_fault A B None never h = tt
 no_fault A B (Some f) never h = absurd (never f h)
+
+-- and of what there is without one, if there was one
+pub none_begun : {T F : Type 0} (P : T → Type 0) (r : Result T F) → IsErr r → IfOk r P
+none_begun P (Ok x) failed = absurd (false≢true failed)
+none_begun P (Err e) failed = tt
 
 abbrev pub IsFreshPort : ℕ → Port → Type 0
 IsFreshPort n201 x = PortStands n201 x fresh_port

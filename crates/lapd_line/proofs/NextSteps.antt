@@ -1,8 +1,10 @@
 -- What a call for the next frame does to a line.
 use Rattle.lapd_line.proofs.Vocabulary.{◌≡◌, ℕ, ◌+◌, ◌≤◌, false, List, [], ◌++◌, length, take, drop, take-append_seam, Option, Some, None, IfSome, is_some, option_map, refl, sym, ap, ◌∙◌, subst, arith, option_map_or, Counters, More, with_all, begun_shown, message_shown, Managing, first_type, listed, ShortList, Order, Owned, Store, Config, next, gave, after, answer, Taken, taken, next_of, line_of}
-use Rattle.lapd_line.proofs.Vocabulary.{TakesSoundly, taken_sound, answer_shown, FrameLine, LinkLayer, IsNext, Loading, in_octets, Took, Takes, TakesNext, Leads, config_of, gave_in, length-append, drop-append-drop, has_next, LineStands, Begun}
+use Rattle.lapd_line.proofs.Vocabulary.{◌-◌, TakesSoundly, taken_sound, answer_shown, FrameLine, LinkLayer, IsNext, Loading, in_octets, Took, Takes, TakesNext, Leads, config_of, gave_in, length-append, drop-append-drop, has_next, LineStands, Begun}
 use Rattle.model_line.specs.Event as line_event
 use Rattle.model_line.specs.Line as machine
+use Rattle.lapd_line.specs.Reports.{written}
+use Rattle.lapd_line.specs.declared.next_frame.NextFrame.{NextFrame}
 use Rattle.lapd_line.proofs.LineSteps.{recounted}
 use Rattle.lapd_line.proofs.MessageSteps.{message_is, type_counted}
 
@@ -87,6 +89,25 @@ pub given_is : (c : Config) (m : machine.Line) (frame : line_event.NextFrame) (o
 given_is c m frame octets is same = ap (answer_shown c.side) is ∙ ap (begun_shown c.side) same
 
 -- ---- into octets
+
+-- a caller's room has room for any frame
+pub free_of : (n room : ℕ) → n + 4 ≤ room → 4 ≤ room
+free_of n room h = omega arith
+
+pub room_of : (n room : ℕ) → n + 4 ≤ room → n ≤ room - 4
+room_of n room h = omega arith
+
+-- no frame fits everywhere,
+pub none_fits : (given : Option NextFrame) (out : List ℕ) → given ≡ None → written given ≤ length out
+none_fits given out none = subst (λ x. written x ≤ length out) (sym none) (omega arith)
+
+-- and leaves the octets as they were
+pub octets_stay : {old mid : FrameLine} {s t : Store} {before octets : List ℕ} {n k place there : ℕ} {given : Option (List Order)} → TakesNext old s (in_octets before n place) mid t (in_octets octets k there) given → given ≡ None
+    → (others : List Owned) × (m : machine.Line) × LineStands old s others m → octets ≡ before
+octets_stay h none (others, m, st) = same_octets (gave_none h none others m st).1
+  where
+    same_octets : {a b : List ℕ} {n k p q : ℕ} → in_octets a n p ≡ in_octets b k q → a ≡ b
+    same_octets h = cc
 
 -- what stands in front
 pub front : (xs rest out : List ℕ) (k : ℕ) → length xs ≡ k → out ≡ xs ++ rest → take k out ≡ xs

@@ -1,5 +1,5 @@
 -- A line begins: what its parts are, and that they stand for an empty past.
-use Rattle.lapd_line.proofs.Vocabulary.{◌≡◌, ℕ, ◌≤◌, List, [], ◌∷◌, ◌++◌, length, replicate, Some, None, refl, sym, ap, subst, ◌∙◌, arith, get_or-replicate, All-nil, All-cons, All-head, All-tail, All, zip, Owned, Holds, pairs_of, Store, empty_store, Holds-empty, Managing, Link, terms_of, fresh, queue_of, Config, place_at, link_count, fresh_line, IsInRange, fresh_sound, place_within}
+use Rattle.lapd_line.proofs.Vocabulary.{◌≡◌, ℕ, ◌<◌, ◌≤◌, List, [], ◌∷◌, ◌++◌, length, replicate, Some, None, refl, sym, ap, subst, ◌∙◌, arith, get_or-replicate, All-nil, All-cons, All-head, All-tail, All, zip, Owned, Holds, pairs_of, Store, empty_store, Holds-empty, Managing, Link, terms_of, fresh, queue_of, Config, place_at, link_count, fresh_line, IsInRange, fresh_sound, place_within}
 use Rattle.lapd_line.proofs.Vocabulary.{ranges_of, Marks, AreMarked, false, LayerStands, LinkFits, links_pairs, IsBegun, AreBegun, UnitRing, AreFor, empty_ring, unit_pairs}
 use Rattle.std.proofs.Common.{Vec, Global}
 use Rattle.lapd_line.specs.Managing.{IsBegunBy}
@@ -14,6 +14,16 @@ pub begun : (c : Config) (x : Link) → IsInRange c
 begun c x ranged h queue control =
     let st = h (empty_store 0 8) [] (omega arith) (Holds-empty 0 8) in
     record { fits = st.fits; lengths = st.kept.lengths; narrow = omega (arith, st.wide, (ranges_of c ranged).n201.least); queue = queue; control = control }
+
+-- it can be started
+pub may_start : (c : Config) → IsInRange c → (1 ≤ c.queue) × (c.queue ≤ 127) × (2 ≤ c.control) × (c.control ≤ 16)
+may_start c ranged =
+    let r = ranges_of c ranged in
+    (omega (arith, r.k.least, r.queue.least), r.queue.most, r.control.least, r.control.most)
+
+-- and there is room for it
+pub room_left : {len capacity index count : ℕ} → len ≡ index → capacity ≡ count → index < count → len < capacity
+room_left {len} {capacity} {index} {count} here all h = omega arith
 
 links_fit : (c : Config) (links : List Link) → All (IsBegun c) links → All (LinkFits c) (zip links (replicate (length links) fresh))
 links_fit c [] h = All-nil (LinkFits c)

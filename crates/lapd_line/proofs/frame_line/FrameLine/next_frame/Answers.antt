@@ -1,6 +1,7 @@
 -- Hand-written answers for `FrameLine::next_frame`.
 use Rattle.lapd_line.proofs.Vocabulary.{◌≡◌, ◌≤◌, length, take, drop, Some, begun_shown, answer_shown, ap, sym, ◌∙◌, orders_taken, gave_in, answer, next, config_of}
-use Rattle.lapd_line.proofs.NextSteps.{next_leads, none_leads, gave_none, octets_shown, gave_is, is_written, ended}
+use Rattle.lapd_line.specs.Reports.{written}
+use Rattle.lapd_line.proofs.NextSteps.{free_of, room_of, none_fits, octets_stay, next_leads, none_leads, gave_none, octets_shown, gave_is, is_written, ended}
 use Rattle.lapd_line.proofs.frame_line.FrameLine.next_frame.Goals as goal
 
 pub take-requires-clause-stands : goal.take-requires-clause-stands
@@ -44,3 +45,23 @@ returns-clause-after g c =
     (octets_shown c.in_ok-orders.orders c.take.ensures (ap orders_taken c.in_ok-orders.was) others m st
     ∙ ap (λ d. begun_shown d.side (take c.take.new.out.length c.take.new.out.octets.now)) (sym c.take.ensures.config))
     (c.out-2-1.given.1.1 (sym c.take.ensures.reference)))
+
+pub take-requires-clause-free : goal.take-requires-clause-free
+take-requires-clause-free g c = free_of _ _ c.requires.room
+
+pub take-requires-clause-room : goal.take-requires-clause-room
+take-requires-clause-room g c = room_of _ _ c.requires.room
+
+pub returns-in_err-orders-clause-fits : goal.returns-in_err-orders-clause-fits
+returns-in_err-orders-clause-fits g c = none_fits _ _ c.from_residual.ensures
+
+pub returns-in_err-orders-clause-rest : goal.returns-in_err-orders-clause-rest
+returns-in_err-orders-clause-rest g c =
+    ended (λ out. drop (written c.from_residual.result) out ≡ drop (written c.from_residual.result) c.args.out.now) c.take.new.out.octets.now _
+    (ap (drop (written c.from_residual.result)) (octets_stay c.take.ensures (ap orders_taken c.in_err-orders.was) c.requires.stands)) (c.in_err-orders.out-1-own.given.1.1 (sym c.take.ensures.reference))
+
+pub returns-in_err-orders-clause-room : goal.returns-in_err-orders-clause-room
+returns-in_err-orders-clause-room g c = c.in_err-orders.out-1-own.given.1.0
+
+pub returns-clause-room : goal.returns-clause-room
+returns-clause-room g c = c.out-2-1.given.1.0

@@ -22,3 +22,15 @@ returns-in-Nobody g c =
     read_as c.args.octets.now c.heard_side.result (Ok (parts_of c.in-Ok.frame)) c.heard_side.ensures c.in-Ok.ensures.reading
     (λ others m st. ap (at_side c.args.self.now.config (parts_of c.in-Ok.frame)) (aimed c.args.self.now (g.S.Shelf.store c.args.shelf.now) others m c.in-Ok.frame.address (link.frame (parts_of c.in-Ok.frame)) (message_of c.in-Ok.frame.control c.in-Ok.frame.info.now) _ c.in-Nobody.ensures.is st))
     (serves_none c.args.self.now (g.S.Shelf.store c.args.shelf.now) c.args.octets.now c.for_nobody.new.report _ (c.for_nobody.ensures c.args.octets.now c.in-Ok.ensures.tail))
+
+pub faulty-requires-clause-stands : goal.faulty-requires-clause-stands
+faulty-requires-clause-stands g c = c.requires.stands
+
+pub faulty-requires-clause-clear : goal.faulty-requires-clause-clear
+faulty-requires-clause-clear g c = c.requires.clear
+
+pub message-requires-clause-stands : goal.message-requires-clause-stands
+message-requires-clause-stands g c = c.requires.stands
+
+pub message-requires-clause-clear : goal.message-requires-clause-clear
+message-requires-clause-clear g c = c.requires.clear

@@ -1,25 +1,22 @@
 -- No answer is awaited longer than T200 may run out.
-use Rattle.laws_time.proofs.Vocabulary.{Answer, ArePrompt as TimedArePrompt, Bool, Clock, Config, Event, Expiry, IsInRange, Lengths, List, NoAnswerIsAwaitedLonger, None, Observed, Option, Parts, Service, Some, StaysIn, Step, T200, TimedCard, Timer, View, [], after_all as timed_after_all, and-false, anew, ap, append-nil, append_assoc, arith, at, at_moment, by_event, by_frame}
-use Rattle.laws_time.proofs.Vocabulary.{Moment}
-use Rattle.laws_time.proofs.Vocabulary.{by_t200, cond, due, eqb-true, event_of, events_of, expiry, falls_due, false, inl, is_anew, is_of, is_on, is_same, is_some, is_waiting, ltb-true, may_repeat, moment_at as moment_of, mul-le, nat_le, not, of_frames, option_map, option_map_or, option_to_list, refl, runs, state, step_happens as happens, subst, sym, time}
-use Rattle.laws_time.proofs.Vocabulary.{timed_events_of}
-use Rattle.laws_time.proofs.Vocabulary.{true, true≢false, view_behind, view_of, without_first, ℕ, ◌&&◌, ◌*◌, ◌++◌, ◌+◌, ◌-◌, ◌<◌, ◌==◌, ◌||◌, ◌∙◌, ◌∷◌, ◌≡◌, ◌≤◌}
+use Rattle.laws_time.proofs.Vocabulary.{Answer, ArePrompt as TimedArePrompt, Bool, Clock, Config, Event, Expiry, IsInRange, Lengths, List, NoAnswerIsAwaitedLonger, None, Observed, Option, Parts, Service, Some, StaysIn, Step, T200, TimedCard, View, [], after_all as timed_after_all, anew, ap, append-nil, append_assoc, arith, at, at_moment, by_event, by_frame, by-bool, Moment}
+use Rattle.laws_time.proofs.Vocabulary.{by_t200, cond, due, eqb-true, event_of, events_of, expiry, falls_due, false, is_anew, is_on, is_some, is_waiting, ltb-true, may_repeat, moment_at as moment_of, mul-le, nat_le, not, of_frames, option_map, option_map_or, option_to_list, refl, runs, state, step_happens as happens, subst, sym, time, timed_events_of, true, true≢false}
+use Rattle.laws_time.proofs.Vocabulary.{view_behind, view_of, without_first, ℕ, ◌&&◌, ◌*◌, ◌++◌, ◌+◌, ◌-◌, ◌<◌, ◌==◌, ◌||◌, ◌∙◌, ◌∷◌, ◌≡◌, ◌≤◌}
 use Rattle.lapd_frame.specs.declared.timers.Timer.TheVariants as timers
 use Rattle.model_line.specs.Event as line_event
-use Rattle.model_line.specs.Event.{hears}
 use Rattle.model_card.specs.Card as cards
 use Rattle.model_card.specs.Machine.{answer}
 use Rattle.model_card.specs.Run as runs_of
 use Rattle.model_timed.specs.Frames.{fresh, after, after_all, ArePrompt}
 use Rattle.laws_time.proofs.TimedFrames.{with_event, expiry_of, with_expiry as timed_expiry, IsPrompt}
 use Rattle.laws_time.proofs.Links.{view-then, on-where, state-is, elsewhere, stays-on}
-use Rattle.laws_time.proofs.Moments.{at-lines, differs, each-timer, foreign-t200, is_own_t200}
+use Rattle.laws_time.proofs.Moments.{at-lines, foreign-t200, is_own_t200}
 use Rattle.laws_time.proofs.Walk.{Stands, Holds, seen, step, q-is}
 use Rattle.laws_time.proofs.ArrivalsOneEvent.{no-expiry}
 use Rattle.laws_time.proofs.Falls.{in-time}
-use Rattle.laws_time.proofs.Before.{Goes, other-line, step-goes, dropped-holds, before-goes, begins, t200-leads, expired-anew}
-use Rattle.laws_time.proofs.Phases.{one-more}
-use Rattle.laws_time.proofs.OfCircuit.Moments.{awaits-in, not-anew}
+use Rattle.laws_time.proofs.Before.{Goes, Stays, other-line, step-goes, each-fall, before-goes, begins, t200-leads, expired-anew}
+use Rattle.laws_time.proofs.Silent.{one-more}
+use Rattle.laws_time.proofs.OfCircuit.Orders.{awaits-in, not-anew}
 use Rattle.laws_time.proofs.Effects.{sent-like}
 
 -- A frame that is heard.
@@ -82,14 +79,8 @@ module _ (c : Config) (lengths : Lengths) (late number : ℕ) (ranged : IsInRang
     abbrev q : Observed
     q = (view_behind c service tei number events what).link
 
-    abbrev more : List Event
-    more = events ++ at number what ∷ []
-
     is-q : o_at (events ++ at number what ∷ []) ≡ q
     is-q = q-is c lengths late number ranged within service tei events u s what T200
-
-    on-then : is_on tei (view_behind c service tei number events what).teis ≡ true
-    on-then = ap (λ (v : View). is_on tei v.teis) (sym (view-then c service tei number events (at number what))) ∙ there.0
 
     same-state : q.state ≡ o.state
     same-state = ap (λ (x : Observed). x.state) (sym is-q) ∙ there.1 ∙ sym w.state_is
@@ -97,7 +88,7 @@ module _ (c : Config) (lengths : Lengths) (late number : ℕ) (ranged : IsInRang
     -- that is not the expiry of T200
     still : is_own_t200 service tei what ≡ false → H events u.clock (D o.expiries) → Awaits (events ++ at number what ∷ []) (with_event (at number what) u)
     still other h =
-        let by = stays-on c events number ranged s.all within service tei what w.on on-then in
+        let by = stays-on c events number ranged s.all within service tei what w.on (ap (λ (v : View). is_on tei v.teis) (sym (view-then c service tei number events (at number what))) ∙ there.0) in
         let count : q.expiries ≡ o.expiries = grind (arith, counts-same, moment_of, answer, waits-at, same-state) in
         let none : is_anew c service tei T200 o q what ≡ false = not-anew c events number ranged s.all within service tei what u.clock (waits-at o w.state_is) same-state (omega (arith, count)) in
         let never : (not (runs T200 o) || is_anew c service tei T200 o q what) ≡ false = grind (arith, not, is_anew, runs-at) in
@@ -105,9 +96,8 @@ module _ (c : Config) (lengths : Lengths) (late number : ℕ) (ranged : IsInRang
           goes = g;
           on = there.0;
           state_is = there.1;
-          due_by = step c lengths late number ranged within service tei events u s what T200 (D o.expiries) (D (o_at more).expiries) (λ run kept. h run)
-              (λ run m late_is d. subst (λ e. D e m) (sym (ap (λ (x : Observed). x.expiries) is-q ∙ count)) d)
-              (λ begun run. absurd (true≢false (sym begun ∙ never)));
+          due_by = step c lengths late number ranged within service tei events u s what T200 (D o.expiries) (D (o_at (events ++ at number what ∷ [])).expiries) (λ run kept. h run)
+              (λ run m late_is d. subst (λ e. D e m) (sym (ap (λ (x : Observed). x.expiries) is-q ∙ count)) d) (λ begun run. absurd (true≢false (sym begun ∙ never)));
         }
 
   -- It falls due at m, and expires once more.
@@ -120,30 +110,22 @@ module _ (c : Config) (lengths : Lengths) (late number : ℕ) (ranged : IsInRang
     abbrev its : line_event.Event
     its = expiry (timers.T200 service tei)
 
-    abbrev o_was : Observed
-    o_was = o_at events
-
-    leads : o_at (events ++ at number (expiry (timers.T200 service tei)) ∷ []) ≡ by_t200 c o_was
+    leads : o_at (events ++ at number (expiry (timers.T200 service tei)) ∷ []) ≡ by_t200 c (o_at events)
     leads = is-q events t u w s its g there ∙ t200-leads c number ranged within service tei events s.all w.on
 
     expired : Awaits (events ++ at number (expiry (timers.T200 service tei)) ∷ []) (with_event (at number (expiry (timers.T200 service tei))) u)
-    expired = go (may_repeat c o_was) refl
-      where
-        go : (b : Bool) → may_repeat c o_was ≡ b → Awaits (events ++ at number (expiry (timers.T200 service tei)) ∷ []) (with_event (at number (expiry (timers.T200 service tei))) u)
-        go false none = absurd (led-out c o_was (waits-at o_was w.state_is) none (ap (λ (x : Observed). x.state) (sym leads) ∙ there.1 ∙ sym w.state_is))
-        go true less =
-            let count = ap (λ (x : Observed). x.expiries) (leads ∙ led-on c o_was (waits-at o_was w.state_is) less) in
-            let d = w.due_by (runs-at o_was w.state_is) in
-            record {
-              goes = g;
-              on = there.0;
-              state_is = there.1;
-              due_by = step c lengths late number ranged within service tei events u s its T200 (λ m. ⊥) (D (o_at (events ++ at number its ∷ [])).expiries)
-                  (λ run kept. absurd (true≢false (sym (expired-anew c number ranged within service tei events s.all T200 run) ∙ kept)))
-                  (λ run m late_is h. absurd h)
-                  (λ begun run. subst (λ e. D e (u.clock.now + lengths.t200)) (sym count)
-                  (again u.clock.now d.0 o_was.expiries (subst (λ k. k ≤ d.0 + late) (sym same_now) d.2) (ltb-true o_was.expiries c.n200 less) d.3));
-            }
+    expired = by-bool (may_repeat c (o_at events)) (λ less.
+        let count = ap (λ (x : Observed). x.expiries) (leads ∙ led-on c (o_at events) (waits-at (o_at events) w.state_is) less) in let d = w.due_by (runs-at (o_at events) w.state_is) in
+        record {
+          goes = g;
+          on = there.0;
+          state_is = there.1;
+          due_by = step c lengths late number ranged within service tei events u s its T200 (λ m. ⊥) (D (o_at (events ++ at number its ∷ [])).expiries)
+              (λ run kept. absurd (true≢false (sym (expired-anew c number ranged within service tei events s.all T200 run) ∙ kept))) (λ run m late_is h. absurd h)
+              (λ begun run. subst (λ e. D e (u.clock.now + lengths.t200)) (sym count)
+              (again u.clock.now d.0 (o_at events).expiries (subst (λ k. k ≤ d.0 + late) (sym same_now) d.2) (ltb-true (o_at events).expiries c.n200 less) d.3));
+        })
+        (λ none. absurd (led-out c (o_at events) (waits-at (o_at events) w.state_is) none (ap (λ (x : Observed). x.state) (sym leads) ∙ there.1 ∙ sym w.state_is)))
 
   -- An event at another line.
   elsewhere-awaits : (events : List Event) (t u : TimedCard) → Awaits events t → S events u → (e : Event) → (e.line == number) ≡ false → G (events ++ e ∷ []) (with_event e u) → IsThere events e
@@ -159,13 +141,8 @@ module _ (c : Config) (lengths : Lengths) (late number : ℕ) (ranged : IsInRang
             (other-line c lengths late number ranged within service tei events u s (D (o_at events).expiries) e T200 other h);
       }
 
-  event-awaits : (events : List Event) (t u : TimedCard) → Awaits events t → S events u → (e : Event) → G (events ++ e ∷ []) (with_event e u) → IsThere events e
-      → ((e.line == number) ≡ false → H events u.clock (D (o_at events).expiries))
-      → (G (events ++ at number e.what ∷ []) (with_event (at number e.what) u) → IsThere events (at number e.what) → Awaits (events ++ at number e.what ∷ []) (with_event (at number e.what) u))
-      → Awaits (events ++ e ∷ []) (with_event e u)
-  event-awaits events t u w s e g there apart here =
-      at-lines number (λ e. G (events ++ e ∷ []) (with_event e u) → IsThere events e → Awaits (events ++ e ∷ []) (with_event e u)) e
-      (λ other g there. elsewhere-awaits events t u w s e other g there (apart other)) (λ own_line. here) g there
+  abbrev Then : List Event → TimedCard → Event → Type 0
+  Then events u e = G (events ++ e ∷ []) (with_event e u) → IsThere events e → Awaits (events ++ e ∷ []) (with_event e u)
 
   -- A timer falls due.
   module _ (events : List Event) (t : TimedCard) (w : Awaits events t) (x : Expiry) (is : due t.clock ≡ Some x) where
@@ -175,29 +152,15 @@ module _ (c : Config) (lengths : Lengths) (late number : ℕ) (ranged : IsInRang
     based : S events u
     based = record { card = w.goes.stands.card; all = w.goes.stands.all; lengths_are = w.goes.stands.lengths_are }
 
-    dropped : is_of number (timers.T200 service tei) x ≡ false → H events u.clock (D (o_at events).expiries)
-    dropped other run = dropped-holds c lengths late number ranged within service tei (D (o_at events).expiries) events t x is T200 other (w.due_by run)
+    stays-due : Stays c lengths late number ranged within service tei t T200 → H events u.clock (D (o_at events).expiries)
+    stays-due stays run = stays (D (o_at events).expiries) (w.due_by run)
 
-    by-timer : is_same x.timer (timers.T200 service tei) ≡ false → is_of number (timers.T200 service tei) x ≡ false
-    by-timer other = ap (λ b. (x.line == number) && b) other ∙ and-false (x.line == number)
-
-    abbrev Own : Timer → Type 0
-    Own timer = G (events ++ at number (expiry timer) ∷ []) (with_event (at number (expiry timer)) u) → IsThere events (at number (expiry timer))
-        → Awaits (events ++ at number (expiry timer) ∷ []) (with_event (at number (expiry timer)) u)
-
-    foreign : (timer : Timer) → x.timer ≡ timer → is_own_t200 service tei (expiry timer) ≡ false → is_same timer (timers.T200 service tei) ≡ false → Own timer
-    foreign timer same none other g there =
-        still events t u w based (expiry timer) g there none (dropped (by-timer (ap (λ timer. is_same timer (timers.T200 service tei)) same ∙ other)))
-
-    any : (timer : Timer) → x.timer ≡ timer → Own timer
-    any =
-        each-timer service tei (λ timer. x.timer ≡ timer → Own timer)
-        (λ timer none same. foreign timer same (foreign-t200 service tei timer none) (differs service tei timer (timers.T200 service tei) (inl refl) none))
-        (λ same. expired events t u w based refl) (λ same. foreign (timers.T203 service tei) same refl refl)
-
-    fell-awaits : G (events ++ expiry_of x ∷ []) (with_event (expiry_of x) u) → IsThere events (expiry_of x) → Awaits (events ++ expiry_of x ∷ []) (with_event (expiry_of x) u)
-    fell-awaits g there =
-        event-awaits events t u w based (expiry_of x) g there (λ other. dropped (ap (λ b. b && is_same x.timer (timers.T200 service tei)) other)) (any x.timer refl)
+    fell-awaits : Then events u (expiry_of x)
+    fell-awaits =
+        each-fall c lengths late number ranged within service tei (Then events u) t x is
+        (λ stays other g there. elsewhere-awaits events t u w based (expiry_of x) other g there (stays-due (stays T200)))
+        (λ stays timer none g there. still events t u w based (expiry timer) g there (foreign-t200 service tei timer none) (stays-due (stays T200))) (λ stays own same. expired events t u w based refl)
+        (λ stays g there. still events t u w based (expiry (timers.T203 service tei)) g there refl (stays-due stays))
 
   -- A step.
   there-now : (events : List Event) (e : Event) (t : TimedCard) → G (events ++ e ∷ []) t → state number service tei t.card ≡ Some n → IsThere events e
@@ -209,8 +172,8 @@ module _ (c : Config) (lengths : Lengths) (late number : ℕ) (ranged : IsInRang
       → Awaits (events ++ option_to_list (event_of d t)) (after d t)
   step-awaits events t (happens e) w prompt is =
       let g = step-goes c lengths late number ranged within service tei events t (happens e) w.goes prompt in
-      event-awaits events t t w w.goes.stands e g (there-now events e (with_event e t) g is) (λ other. w.due_by)
-      (λ g2 there. still events t t w w.goes.stands e.what g2 there (no-expiry service tei e.what prompt.1) w.due_by)
+      at-lines number (Then events t) e (λ other g there. elsewhere-awaits events t t w w.goes.stands e other g there w.due_by)
+      (λ own g there. still events t t w w.goes.stands e.what g there (no-expiry service tei e.what prompt.1) w.due_by) g (there-now events e (with_event e t) g is)
   step-awaits events t (time moment) w prompt is =
       let u = record t { clock = at_moment moment t.clock } in
       subst (λ es. Awaits es (record t { clock = at_moment moment t.clock })) (sym (append-nil events))
@@ -260,8 +223,7 @@ no-answer-is-awaited-longer service c lengths late number tei n before steps ran
 
     early : (now m e : ℕ) → m ≤ now + lengths.t200 → m + late + (c.n200 - e) * (lengths.t200 + late) ≤ now + (c.n200 + 1) * (lengths.t200 + late)
     early now m e low =
-        let fewer = mul-le (c.n200 - e) (lengths.t200 + late) c.n200 (lengths.t200 + late) (omega arith) (omega arith) in
-        let whole = one-more c.n200 (lengths.t200 + late) in
+        let fewer = mul-le (c.n200 - e) (lengths.t200 + late) c.n200 (lengths.t200 + late) (omega arith) (omega arith) in let whole = one-more c.n200 (lengths.t200 + late) in
         omega (arith, fewer, whole, low)
 
     first : Awaits c lengths late number ranged within service tei n limit waiting events t

@@ -23,22 +23,18 @@ module _ (service : Service) (tei number n : ℕ) where
       go : (o : Option line.Event) → meant_at e t.card ≡ o → Stays (frame_steps steps (with_octets e t)) (inside (with_octets e t))
           → Stays (put o e.line (frame_steps steps (with_octets e t))) (inside t)
       go None is later = subst (Stays (frame_steps steps (with_octets e t))) (event-inside e t None is) later
-      go (Some what) is later =
-          let its = event-inside e t (Some what) is in (subst IsThere its stays.0, subst (Stays (frame_steps steps (with_octets e t))) its later)
+      go (Some what) is later = let its = event-inside e t (Some what) is in (subst IsThere its stays.0, subst (Stays (frame_steps steps (with_octets e t))) its later)
   stays-inside (time moment ∷ steps) t stays = (stays.0, stays-inside steps (next_octets (time moment) t) stays.1)
   stays-inside (falls_due ∷ steps) t stays =
-      let its = fallen-inside t (due t.clock) in
-      (subst IsThere its stays.0, subst (Stays (frame_steps steps (next_octets falls_due t))) its (stays-inside steps (next_octets falls_due t) stays.1))
+      let its = fallen-inside t (due t.clock) in (subst IsThere its stays.0, subst (Stays (frame_steps steps (next_octets falls_due t))) its (stays-inside steps (next_octets falls_due t) stays.1))
 
 pub no-answer-is-awaited-longer-of-octets : NoAnswerIsAwaitedLonger of_octets
 no-answer-is-awaited-longer-of-octets service c lengths late number tei n before steps ranged within waiting prompt_before prompt at_n stays =
     let t = after_all octets before (fresh c lengths) in let its = frame_steps steps t in let t_is = steps-inside before (fresh c lengths) in
     subst (λ (u : TimedCard). u.clock.now ≤ t.clock.now + awaiting late c lengths) (sym (steps-inside steps t))
     (subst (λ (v : TimedCard). (after_all frames its v).clock.now ≤ v.clock.now + awaiting late c lengths) (sym t_is)
-    (no-answer-is-awaited-longer service c lengths late number tei n (frame_steps before (fresh c lengths)) its ranged within waiting
-    (prompt-inside late before (fresh c lengths) prompt_before)
-    (subst (ArePrompt frames late its) t_is (prompt-inside late steps t prompt))
-    (subst (λ (v : TimedCard). state number service tei v.card ≡ Some n) t_is at_n)
+    (no-answer-is-awaited-longer service c lengths late number tei n (frame_steps before (fresh c lengths)) its ranged within waiting (prompt-inside late before (fresh c lengths) prompt_before)
+    (subst (ArePrompt frames late its) t_is (prompt-inside late steps t prompt)) (subst (λ (v : TimedCard). state number service tei v.card ≡ Some n) t_is at_n)
     (subst (StaysIn of_frames number service tei n its) t_is (stays-inside service tei number n steps t stays))))
 
 pub n200-takes-its-time-of-octets : N200TakesItsTime of_octets
@@ -46,10 +42,8 @@ n200-takes-its-time-of-octets service c lengths late number tei n before steps r
     let t = after_all octets before (fresh c lengths) in let its = frame_steps steps t in let t_is = steps-inside before (fresh c lengths) in
     subst (λ (told : List Note). list_any is_used_up (flat_map error_in told) ≡ false) (sym (news-inside c service tei number steps t))
     (subst (λ (v : TimedCard). list_any is_used_up (flat_map error_in (news of_frames service tei number its v)) ≡ false) (sym t_is)
-    (n200-takes-its-time service c lengths late number tei n (frame_steps before (fresh c lengths)) its ranged within idle
-    (prompt-inside late before (fresh c lengths) prompt_before)
-    (subst (ArePrompt frames late its) t_is (prompt-inside late steps t prompt))
-    (subst (λ (v : TimedCard). state number service tei v.card ≡ Some n) t_is at_n)
+    (n200-takes-its-time service c lengths late number tei n (frame_steps before (fresh c lengths)) its ranged within idle (prompt-inside late before (fresh c lengths) prompt_before)
+    (subst (ArePrompt frames late its) t_is (prompt-inside late steps t prompt)) (subst (λ (v : TimedCard). state number service tei v.card ≡ Some n) t_is at_n)
     (subst (λ (v : TimedCard). (after_all frames its v).clock.now < v.clock.now + least_tries c n * lengths.t200) t_is
     (subst (λ (u : TimedCard). u.clock.now < t.clock.now + least_tries c n * lengths.t200) (steps-inside steps t) soon))))
 
@@ -59,10 +53,7 @@ a-dead-line-is-told-of-octets service c lengths late number tei from before step
     let t = after_all octets before (fresh c lengths) in let its = frame_steps steps t in let t_is = steps-inside before (fresh c lengths) in
     let InTime = λ (v u : TimedCard). IsToldInTime late from c lengths service tei v.clock.now u.clock.now (news of_frames service tei number its v) in
     subst (λ told. IsToldInTime late from c lengths service tei t.clock.now (after_all octets steps t).clock.now told) (sym (news-inside c service tei number steps t))
-    (subst (λ (u : TimedCard). InTime (inside t) u) (sym (steps-inside steps t))
-    (subst (λ (v : TimedCard). InTime v (after_all frames its v)) (sym t_is)
-    (a-dead-line-is-told service c lengths late number tei from (frame_steps before (fresh c lengths)) its ranged within low
-    (prompt-inside late before (fresh c lengths) prompt_before)
-    (subst (ArePrompt frames late its) t_is (prompt-inside late steps t prompt))
-    (subst (λ (v : TimedCard). state number service tei v.card ≡ Some from) t_is at_from)
+    (subst (λ (u : TimedCard). InTime (inside t) u) (sym (steps-inside steps t)) (subst (λ (v : TimedCard). InTime v (after_all frames its v)) (sym t_is)
+    (a-dead-line-is-told service c lengths late number tei from (frame_steps before (fresh c lengths)) its ranged within low (prompt-inside late before (fresh c lengths) prompt_before)
+    (subst (ArePrompt frames late its) t_is (prompt-inside late steps t prompt)) (subst (λ (v : TimedCard). state number service tei v.card ≡ Some from) t_is at_from)
     (subst (AreStill of_frames c service tei number its) t_is (still-inside c service tei number steps t still)))))

@@ -1,5 +1,5 @@
 -- N200 is used up no sooner than T200 has run out so often.
-use Rattle.laws_time.proofs.Vocabulary.{ArePrompt as TimedArePrompt, Bool, Clock, Config, Event, Expiry, IsInRange, Lengths, List, Moment, N200TakesItsTime, None, Note, Observed, Option, Service, Some, Step, T200, TimedCard, Timer, View, [], add-mul, after_all as timed_after_all, and-false, ap, append-nil, arith, at, at_moment, by_event, by_expiry, by_t200, cond, counted, due, enquiries, eq-eqb}
+use Rattle.laws_time.proofs.Vocabulary.{ArePrompt as TimedArePrompt, Bool, Clock, Config, Event, Expiry, IsInRange, Lengths, List, Moment, N200TakesItsTime, None, Note, Observed, Option, Service, Some, Step, T200, TimedCard, View, [], add-mul, after_all as timed_after_all, ap, append-nil, arith, at, at_moment, by_event, by_t200, cond, counted, due, enquiries, eq-eqb}
 use Rattle.laws_time.proofs.Vocabulary.{eqb-true, event_of, events_of, expiry, falls_due, false, filter, in_state, inl, inr, is_news, is_of, is_on, is_same, is_waiting, ltb-false, moment_at, moment_of, mul-le, news, news_in, not, notes_due, notes_of, of_frames, option_map, option_map_or, option_to_list, orders_in, own-is, refl, runs, state, step_happens as happens, subst, sym, time, tries, true}
 use Rattle.laws_time.proofs.Vocabulary.{true≢false, view_behind, view_of, without_first, ℕ, ◌&&◌, ◌*◌, ◌++◌, ◌+◌, ◌<◌, ◌==◌, ◌||◌, ◌∙◌, ◌∷◌, ◌≡◌, ◌≤◌, ◌⊎◌}
 use Rattle.lapd_frame.specs.declared.timers.Timer.TheVariants as timers
@@ -10,13 +10,12 @@ use Rattle.model_card.specs.Run as runs_of
 use Rattle.model_timed.specs.Frames.{fresh, after, after_all, ArePrompt}
 use Rattle.laws_time.proofs.TimedFrames.{with_event, expiry_of, with_expiry as timed_expiry, IsPrompt}
 use Rattle.laws_time.proofs.Links.{view-then, state-is, there}
-use Rattle.laws_time.proofs.Moments.{at-lines, itself, now-stays, differs, each-timer, foreign-t200, is_own_t200}
-use Rattle.laws_time.proofs.Walk.{Stands, Holds, seen}
+use Rattle.laws_time.proofs.Moments.{at-lines, itself, now-stays, foreign-t200, is_own_t200}
+use Rattle.laws_time.proofs.Walk.{Stands, Holds, seen, own-news}
 use Rattle.laws_time.proofs.Falls.{in-time}
-use Rattle.laws_time.proofs.Before.{Goes, views-elsewhere, other-line, step-goes, dropped-holds, before-goes, begins, t200-leads, expired-anew}
-use Rattle.laws_time.proofs.OfCircuit.Moments.{awaits-in}
-use Rattle.laws_time.proofs.ArrivalsErrors.{used-append, led, idle-off, used-means, expiry-means, Used}
-use Rattle.laws_time.proofs.ArrivalsOneEvent.{no-expiry, due-now, Runs, first-time, once-more, out-of-7, fewer, is-q, views-own, anew-due, own-news, other-due, other-news}
+use Rattle.laws_time.proofs.Before.{Goes, Stays, views-elsewhere, other-line, step-goes, each-fall, before-goes, begins, t200-leads, expired-anew}
+use Rattle.laws_time.proofs.OfCircuit.Orders.{awaits-in}
+use Rattle.laws_time.proofs.ArrivalsOneEvent.{used-append, led, idle-off, used-means, expiry-means, Used, no-expiry, due-now, Runs, first-time, once-more, out-of-7, fewer, is-q, views-own, anew-due, other-due, other-news}
 
 counted-once : (c : Config) → counted c ≤ 1
 counted-once c = grind arith
@@ -58,12 +57,6 @@ module _ (c : Config) (lengths : Lengths) (late number : ℕ) (ranged : IsInRang
     in-time-so : runs T200 o_was ≡ true → P o_was m0
     in-time-so run = grind arith
 
-    bound : is_waiting o_was.state ≡ true → t0 + (o_was.expiries + 1) * lengths.t200 ≤ m0 + slack * lengths.t200
-    bound waits = (in-time-so (awaits-in o_was waits)).0 waits
-
-    since-now : t0 ≤ u.clock.now
-    since-now = subst (λ n. t0 ≤ n) (sym same_now) w.since
-
     led-by : runs T200 o_was ≡ true → q_then ≡ by_t200 c o_was
     led-by run = t200-leads c number ranged within service tei events s.all (there c events number ranged s.all within service tei T200 run)
 
@@ -74,16 +67,16 @@ module _ (c : Config) (lengths : Lengths) (late number : ℕ) (ranged : IsInRang
             → ((o_was.state ≡ 7) × ((by_t200 c o_was).expiries ≡ counted c)) ⊎ ((by_t200 c o_was).expiries ≡ 0) ⊎ (((by_t200 c o_was).expiries ≡ o_was.expiries + 1) × (is_waiting o_was.state ≡ true))
             → t0 + (q_then.expiries + 1) * lengths.t200 ≤ u.clock.now + lengths.t200 + slack * lengths.t200
         once run waits (inl (at_7, count)) =
-            out-of-7 c lengths late number ranged within service tei t0 slack floor least covers u.clock.now m0 q_then.expiries since-now (subst (λ n. m0 ≤ n) (sym same_now) low)
+            out-of-7 c lengths late number ranged within service tei t0 slack floor least covers u.clock.now m0 q_then.expiries (subst (λ n. t0 ≤ n) (sym same_now) w.since) (subst (λ n. m0 ≤ n) (sym same_now) low)
             (ap (λ (q : Observed). q.expiries) (led-by run) ∙ count) ((in-time-so run).1 at_7)
-        once run waits (inr (inl none)) = first-time c lengths late number ranged within service tei t0 slack floor least covers u.clock.now u.clock.now q_then since-now (ap (λ (q : Observed). q.expiries) (led-by run) ∙ none)
+        once run waits (inr (inl none)) = first-time c lengths late number ranged within service tei t0 slack floor least covers u.clock.now u.clock.now q_then (subst (λ n. t0 ≤ n) (sym same_now) w.since) (ap (λ (q : Observed). q.expiries) (led-by run) ∙ none)
         once run waits (inr (inr (count, was))) =
             subst (λ e. t0 + (e + 1) * lengths.t200 ≤ u.clock.now + lengths.t200 + slack * lengths.t200) (sym (ap (λ (q : Observed). q.expiries) (led-by run) ∙ count))
-            (once-more c lengths late number ranged within service tei t0 slack floor least covers u.clock.now m0 o_was.expiries (subst (λ n. m0 ≤ n) (sym same_now) low) (bound was))
+            (once-more c lengths late number ranged within service tei t0 slack floor least covers u.clock.now m0 o_was.expiries (subst (λ n. m0 ≤ n) (sym same_now) low) ((in-time-so (awaits-in o_was was)).0 was))
 
         go : (b : Bool) → runs T200 o_was ≡ b → H (events ++ at number (expiry (timers.T200 service tei)) ∷ []) (with_event (at number (expiry (timers.T200 service tei))) u).clock (P (o_at (events ++ at number (expiry (timers.T200 service tei)) ∷ [])))
         go true run =
-            anew-due c lengths late number ranged within service tei t0 slack floor least covers events u s its (expired-anew c number ranged within service tei events s.all T200 run) since-now
+            anew-due c lengths late number ranged within service tei t0 slack floor least covers events u s its (expired-anew c number ranged within service tei events s.all T200 run) (subst (λ n. t0 ≤ n) (sym same_now) w.since)
             (λ waits. once run waits (led c o_was (ap (λ (q : Observed). is_waiting q.state) (sym (led-by run)) ∙ waits) run))
         go false none = λ run.
             absurd (true≢false (sym run ∙ ap (runs T200) (is-q c lengths late number ranged within service tei t0 slack floor least covers events u s its) ∙ off (is_on tei (view_of c service tei number events).teis) refl (is_on tei (view_behind c service tei number events its).teis) refl))
@@ -96,40 +89,31 @@ module _ (c : Config) (lengths : Lengths) (late number : ℕ) (ranged : IsInRang
             none-on false = refl
 
             off : (a : Bool) → is_on tei (view_of c service tei number events).teis ≡ a → (b : Bool) → is_on tei (view_behind c service tei number events its).teis ≡ b → runs T200 q_then ≡ false
-            off true on b e =
-                ap (runs T200) (t200-leads c number ranged within service tei events s.all on) ∙ idle-off c o_was none
+            off true on b e = ap (runs T200) (t200-leads c number ranged within service tei events s.all on) ∙ idle-off c o_was none
             off false on b e = ap (runs T200) (views-own c lengths late number ranged within service tei t0 slack floor least covers events u s its ∙ ap (λ a. cond (not on_then) (in_state 1) (cond a (by_event c service tei its (moment_at c events number its).answer o_was) (in_state 4))) on) ∙ none-on on_then
 
     expired-news : Used (news_in of_frames service tei number (Some (at number (expiry (timers.T200 service tei)))) u.card) ≡ false
-    expired-news = ap Used (own-news c lengths late number ranged within service tei t0 slack floor least covers events u s its) ∙ go (Used (notes_due c service tei o_was q_then its (moment_at c events number its).answer)) refl
+    expired-news = ap Used (own-news c lengths late number ranged within service tei events u s its) ∙ go (Used (notes_due c service tei o_was q_then its (moment_at c events number its).answer)) refl
       where
         never : (is_waiting o_was.state ≡ true) → ((o_was.state == q_then.state) ≡ false) → ⊥
         never waits moves =
             let run = awaits-in o_was waits in
-            let x = expiry-means c service tei o_was (timers.T200 service tei) waits (ap (λ (q : Observed). o_was.state == q.state) (sym (is-by run)) ∙ moves) in
+            let x = expiry-means c service tei o_was (timers.T200 service tei) waits (ap (λ (q : Observed). o_was.state == q.state) (sym ((led-by run ∙ sym (ap (λ b. cond b (by_t200 c o_was) o_was) (own-is service tei))))) ∙ moves) in
             let many : c.n200 ≤ o_was.expiries = ltb-false o_was.expiries c.n200 x.1 in
-            let b = fewer c lengths late number ranged within service tei t0 slack floor least covers c.n200 o_was.expiries m0 many (bound waits) in
-            let whole = mul-le (few + slack) lengths.t200 (c.n200 + 1) lengths.t200 most (omega arith) in
-            let parts = add-mul few slack lengths.t200 in
+            let b = fewer c lengths late number ranged within service tei t0 slack floor least covers c.n200 o_was.expiries m0 many ((in-time-so (awaits-in o_was waits)).0 waits) in
+            let whole = mul-le (few + slack) lengths.t200 (c.n200 + 1) lengths.t200 most (omega arith) in let parts = add-mul few slack lengths.t200 in
             absurd (omega (arith, b, low, soon, whole, parts))
-          where
-            is-by : runs T200 o_was ≡ true → q_then ≡ by_expiry c service tei (timers.T200 service tei) o_was
-            is-by run = led-by run ∙ sym (ap (λ b. cond b (by_t200 c o_was) o_was) (own-is service tei))
 
         go : (b : Bool) → Used (notes_due c service tei o_was q_then its (moment_at c events number its).answer) ≡ b → b ≡ false
         go false e = refl
         go true e = let x = used-means c service tei o_was q_then its (moment_at c events number its).answer e in absurd (never x.2 x.3)
 
   -- An event at either line.
-  none-there : (e : Event) (card : cards.Card) → (e.line == number) ≡ false → Used (news_in of_frames service tei number (Some e) card) ≡ false
-  none-there e card other = ap (λ b. Used (cond b (filter (is_news service tei) (notes_of (answer e card))) [])) other
-
   abbrev Then : List Event → TimedCard → Event → Type 0
   Then events u e = H (events ++ e ∷ []) (with_event e u).clock (P (o_at (events ++ e ∷ []))) × (Used (news_in of_frames service tei number (Some e) u.card) ≡ false)
 
-  event-runs : (events : List Event) (u : TimedCard) (s : S events u) (e : Event) → ((e.line == number) ≡ false → H events u.clock (P (o_at events)))
-      → ((e.line == number) ≡ true → Then events u (at number e.what)) → Then events u e
-  event-runs events u s e apart here = at-lines number (Then events u) e (λ other. (elsewhere-due other (apart other), none-there e u.card other)) here
+  elsewhere-runs : (events : List Event) (u : TimedCard) (s : S events u) (e : Event) → (e.line == number) ≡ false → H events u.clock (P (o_at events)) → Then events u e
+  elsewhere-runs events u s e other h = (elsewhere-due other h, ap (λ b. Used (cond b (filter (is_news service tei) (notes_of (answer e u.card))) [])) other)
     where
       elsewhere-due : (e.line == number) ≡ false → H events u.clock (P (o_at events)) → H (events ++ e ∷ []) (with_event e u).clock (P (o_at (events ++ e ∷ [])))
       elsewhere-due other h = by (is_on tei (view_of c service tei number events).teis) refl
@@ -146,6 +130,9 @@ module _ (c : Config) (lengths : Lengths) (late number : ℕ) (ranged : IsInRang
               (other-line c lengths late number ranged within service tei events u s (P (o_at events)) e T200 other h)
           by false off = λ run. absurd (true≢false (sym run ∙ ap (runs T200) (is ∙ ap (λ b. cond (not b) (in_state 1) (o_at events)) off)))
 
+  calm-runs : (events : List Event) (u : TimedCard) (s : S events u) (what : line_event.Event) → is_own_t200 service tei what ≡ false → t0 ≤ u.clock.now → H events u.clock (P (o_at events)) → Then events u (at number what)
+  calm-runs events u s what none since h = (other-due c lengths late number ranged within service tei t0 slack floor least covers events u s what none since h, other-news c lengths late number ranged within service tei t0 slack floor least covers events u s what none since h)
+
   -- A timer falls due.
   module _ (events : List Event) (t : TimedCard) (w : Runs c lengths late number ranged within service tei t0 slack floor least covers events t) (x : Expiry) (is : due t.clock ≡ Some x) (soon : t.clock.now < t0 + few * lengths.t200) where
     abbrev u : TimedCard
@@ -154,16 +141,8 @@ module _ (c : Config) (lengths : Lengths) (late number : ℕ) (ranged : IsInRang
     based : S events u
     based = record { card = w.goes.stands.card; all = w.goes.stands.all; lengths_are = w.goes.stands.lengths_are }
 
-    dropped : is_of number (timers.T200 service tei) x ≡ false → H events u.clock (P (o_at events))
-    dropped other run = dropped-holds c lengths late number ranged within service tei (P (o_at events)) events t x is T200 other (w.due_by run)
-
-    by-timer : is_same x.timer (timers.T200 service tei) ≡ false → is_of number (timers.T200 service tei) x ≡ false
-    by-timer other = ap (λ b. (x.line == number) && b) other ∙ and-false (x.line == number)
-
-    foreign : (timer : Timer) → x.timer ≡ timer → is_own_t200 service tei (expiry timer) ≡ false → is_same timer (timers.T200 service tei) ≡ false → Then events u (at number (expiry timer))
-    foreign timer same none other =
-        let h = dropped (by-timer (ap (λ timer. is_same timer (timers.T200 service tei)) same ∙ other)) in
-        (other-due c lengths late number ranged within service tei t0 slack floor least covers events u based (expiry timer) none w.since h, other-news c lengths late number ranged within service tei t0 slack floor least covers events u based (expiry timer) none w.since h)
+    stays-due : Stays c lengths late number ranged within service tei t T200 → H events u.clock (P (o_at events))
+    stays-due stays run = stays (P (o_at events)) (w.due_by run)
 
     mine : (x.line == number) ≡ true → x.timer ≡ timers.T200 service tei → Then events u (at number (expiry (timers.T200 service tei)))
     mine own_line same =
@@ -171,15 +150,11 @@ module _ (c : Config) (lengths : Lengths) (late number : ℕ) (ranged : IsInRang
         let d = due-now number (timers.T200 service tei) t.clock.running t.clock.now x is its_own in
         (expired-due events t u w based x.moment refl d.0 d.1 soon, expired-news events t u w based x.moment refl d.0 d.1 soon)
 
-    any : (x.line == number) ≡ true → (timer : Timer) → x.timer ≡ timer → Then events u (at number (expiry timer))
-    any own_line =
-        each-timer service tei (λ timer. x.timer ≡ timer → Then events u (at number (expiry timer)))
-        (λ timer none same. foreign timer same (foreign-t200 service tei timer none) (differs service tei timer (timers.T200 service tei) (inl refl) none))
-        (λ same. mine own_line same) (λ same. foreign (timers.T203 service tei) same refl refl)
-
     fell-runs : Then events u (expiry_of x)
     fell-runs =
-        event-runs events u based (expiry_of x) (λ other. dropped (ap (λ b. b && is_same x.timer (timers.T200 service tei)) other)) (λ own_line. any own_line x.timer refl)
+        each-fall c lengths late number ranged within service tei (Then events u) t x is (λ stays other. elsewhere-runs events u based (expiry_of x) other (stays-due (stays T200)))
+        (λ stays timer none. calm-runs events u based (expiry timer) (foreign-t200 service tei timer none) w.since (stays-due (stays T200))) (λ stays own_line same. mine own_line same)
+        (λ stays. calm-runs events u based (expiry (timers.T203 service tei)) refl w.since (stays-due stays))
 
   -- A step.
   pub record Stepped (events : List Event) (t : TimedCard) (told : List Note) : Type 0 where
@@ -193,9 +168,8 @@ module _ (c : Config) (lengths : Lengths) (late number : ℕ) (ranged : IsInRang
       → Stepped (events ++ option_to_list (event_of d t)) (after d t) (news_in of_frames service tei number (event_of d t) t.card)
   step-runs events t (happens e) w prompt soon =
       let g = step-goes c lengths late number ranged within service tei events t (happens e) w.goes prompt in
-      let none = no-expiry service tei e.what prompt.1 in
-      let x = event-runs events t w.goes.stands e (λ other. w.due_by)
-      (λ own_line. (other-due c lengths late number ranged within service tei t0 slack floor least covers events t w.goes.stands e.what none w.since w.due_by, other-news c lengths late number ranged within service tei t0 slack floor least covers events t w.goes.stands e.what none w.since w.due_by)) in
+      let x = at-lines number (Then events t) e (λ other. elsewhere-runs events t w.goes.stands e other w.due_by)
+      (λ own_line. calm-runs events t w.goes.stands e.what (no-expiry service tei e.what prompt.1) w.since w.due_by) in
       record { runs_on = record { goes = g; since = later e t w.since; due_by = x.0 }; none = x.1 }
   step-runs events t (time moment) w prompt soon =
       let g = step-goes c lengths late number ranged within service tei events t (time moment) w.goes prompt in
@@ -214,8 +188,7 @@ module _ (c : Config) (lengths : Lengths) (late number : ℕ) (ranged : IsInRang
           → Stepped (events ++ option_to_list (option_map expiry_of o)) (option_map_or (timed_expiry t) o t) (news_in of_frames service tei number (option_map expiry_of o) t.card)
       go None is g = record { runs_on = subst (λ es. Runs c lengths late number ranged within service tei t0 slack floor least covers es t) (sym (append-nil events)) w; none = refl }
       go (Some x) is g =
-          let y = fell-runs events t w x is soon in
-          record { runs_on = record { goes = g; since = later (expiry_of x) (record t { clock = without_first t.clock }) w.since; due_by = y.0 }; none = y.1 }
+          let y = fell-runs events t w x is soon in record { runs_on = record { goes = g; since = later (expiry_of x) (record t { clock = without_first t.clock }) w.since; due_by = y.0 }; none = y.1 }
 
   -- Time goes on.
   later-on : (t : TimedCard) (d : Step Event) → IsPrompt late d t → t.clock.now ≤ (after d t).clock.now
@@ -231,8 +204,7 @@ module _ (c : Config) (lengths : Lengths) (late number : ℕ) (ranged : IsInRang
   unfolding timed_after_all TimedArePrompt news
   steps-run events t [] w prompt soon = refl
   steps-run events t (d ∷ steps) w prompt soon =
-      let rest = all-later (after d t) steps prompt.1 in let one = later-on t d prompt.0 in
-      let x = step-runs events t d w prompt.0 (omega (arith, soon, rest, one)) in
+      let rest = all-later (after d t) steps prompt.1 in let one = later-on t d prompt.0 in let x = step-runs events t d w prompt.0 (omega (arith, soon, rest, one)) in
       used-append (news_in of_frames service tei number (event_of d t) t.card) (news of_frames service tei number steps (after d t)) x.none
       (steps-run (events ++ option_to_list (event_of d t)) (after d t) steps x.runs_on prompt.1 soon)
 

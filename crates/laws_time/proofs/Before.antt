@@ -1,7 +1,7 @@
 -- Whatever happens to a timed card, each timer of a link that runs falls due, and is overdue by no more.
 use Rattle.laws_time.proofs.Vocabulary.{All, AreAtLines, ArePrompt as TimedArePrompt, Bool, Clock, Config, Event, Expiry, IsInRange, IsInTime, Lengths, LinkTimer, List, Managed, Moment, None, Observed, Option, Service, Some, Step, T200, T203, TimedCard, View, [], after_all as timed_after_all, and_parts, ap, append-nil, append_assoc, arith, at, at_moment, awaits, by_t200, cond}
 use Rattle.laws_time.proofs.Vocabulary.{drop, due, duration, enquires, eqb-true, event_of, events_of, expiry, falls_due, false, frames_after_all as card_after_all, in_state, is_anew, is_of, is_on, is_same, is_terminal, moments, not, nothing_due, option_map, option_map_or, option_to_list, orders_in, own-is, refl, runs, step_happens as happens, subst, sym, time, timed_events_of, timer_of, true}
-use Rattle.laws_time.proofs.Vocabulary.{true≢false, view_behind, view_of, views, without_first, ℕ, ◌&&◌, ◌++◌, ◌+◌, ◌<◌, ◌==◌, ◌∙◌, ◌∷◌, ◌≡◌, ◌≤◌}
+use Rattle.laws_time.proofs.Vocabulary.{Timer, and-false, inl, inr, is_timer_of, true≢false, view_behind, view_of, views, without_first, ℕ, ◌&&◌, ◌++◌, ◌+◌, ◌<◌, ◌==◌, ◌∙◌, ◌∷◌, ◌≡◌, ◌≤◌}
 use Rattle.lapd_frame.specs.declared.timers.Timer.TheVariants as timers
 use Rattle.model_line.specs.Event as line_event
 use Rattle.model_card.specs.Card as cards
@@ -11,7 +11,7 @@ use Rattle.laws_trace.proofs.ObservedExpiries.{t200-enters, enquired}
 use Rattle.model_timed.specs.Frames.{fresh, after, after_all, ArePrompt}
 use Rattle.laws_time.proofs.TimedFrames.{with_event, expiry_of, with_expiry as timed_expiry, IsPrompt}
 use Rattle.laws_time.proofs.Links.{view-then, there, stays-on}
-use Rattle.laws_time.proofs.Moments.{at-lines, now-stays, same, elsewhere}
+use Rattle.laws_time.proofs.Moments.{IsOf, at-lines, now-stays, same, elsewhere, differs, each-timer}
 use Rattle.laws_time.proofs.Walk.{Stands, Holds, IsDue, seen, stands-then, step}
 use Rattle.laws_time.proofs.Falls.{in-time, dropped, first-all, on-lines}
 
@@ -88,9 +88,7 @@ module _ (c : Config) (lengths : Lengths) (late number : ℕ) (ranged : IsInRang
         )
 
     other-now : (e : Event) (timer : LinkTimer) → (e.line == number) ≡ false → HoldsNow timer events t.clock → HoldsNow timer (events ++ e ∷ []) (with_event e t).clock
-    other-now e timer other h run =
-        let d = other-line (Fresh timer t.clock) e timer other h run in
-        (d.0, d.1, d.2, omega (arith, d.3, now-stays))
+    other-now e timer other h run = let d = other-line (Fresh timer t.clock) e timer other h run in (d.0, d.1, d.2, omega (arith, d.3, now-stays))
 
     abbrev Kept : Event → LinkTimer → Type 0
     Kept e timer =
@@ -121,16 +119,37 @@ module _ (c : Config) (lengths : Lengths) (late number : ℕ) (ranged : IsInRang
   }
 
   -- The timer that falls due is no more in the clock; the others are.
-  pub dropped-holds : (P : ℕ → Type 0) (events : List Event) (t : TimedCard) (x : Expiry) → due t.clock ≡ Some x → (timer : LinkTimer) → is_of number (timer_of service tei timer) x ≡ false
-      → IsDue c lengths late number ranged within service tei timer t.clock P → IsDue c lengths late number ranged within service tei timer (without_first t.clock) P
-  dropped-holds P events t x is timer other d = (d.0, dropped number (timer_of service tei timer) x t.clock.running t.clock.now is other ∙ d.1, d.2, d.3)
+  abbrev pub Stays : TimedCard → LinkTimer → Type 1
+  Stays t timer = (P : ℕ → Type 0) → IsDue c lengths late number ranged within service tei timer t.clock P → IsDue c lengths late number ranged within service tei timer (without_first t.clock) P
+
+  drops : (t : TimedCard) (x : Expiry) → due t.clock ≡ Some x → (timer : LinkTimer) → is_of number (timer_of service tei timer) x ≡ false → Stays t timer
+  drops t x is timer other P d = (d.0, dropped number (timer_of service tei timer) x t.clock.running t.clock.now is other ∙ d.1, d.2, d.3)
+
+  -- It is of another line, or of no link of the TEI, or T200, or T203.
+  pub each-fall : (T : Event → Type 0) (t : TimedCard) (x : Expiry) → due t.clock ≡ Some x → (((timer : LinkTimer) → Stays t timer) → (x.line == number) ≡ false → T (expiry_of x))
+      → (((timer : LinkTimer) → Stays t timer) → (timer : Timer) → is_timer_of service tei timer ≡ false → T (at number (expiry timer)))
+      → (Stays t T203 → (x.line == number) ≡ true → x.timer ≡ timers.T200 service tei → T (at number (expiry (timers.T200 service tei))))
+      → (Stays t T200 → T (at number (expiry (timers.T203 service tei)))) → T (expiry_of x)
+  each-fall T t x is apart foreign own_200 own_203 =
+      at-lines number T (expiry_of x) (λ other. apart (λ timer. drops t x is timer (ap (λ b. b && is_same x.timer (timer_of service tei timer)) other)) other)
+      (λ own. each-timer service tei (λ timer. x.timer ≡ timer → T (at number (expiry timer)))
+      (λ timer none same. foreign (λ k. drops t x is k (not-its (timer_of service tei k) timer same (differs service tei timer (timer_of service tei k) (its k) none))) timer none)
+      (λ same. own_200 (drops t x is T203 (not-its (timers.T203 service tei) (timers.T200 service tei) same refl)) own same)
+      (λ same. own_203 (drops t x is T200 (not-its (timers.T200 service tei) (timers.T203 service tei) same refl))) x.timer refl)
+    where
+      not-its : (its timer : Timer) → x.timer ≡ timer → is_same timer its ≡ false → is_of number its x ≡ false
+      not-its its timer same other = ap (λ b. (x.line == number) && b) (ap (λ timer. is_same timer its) same ∙ other) ∙ and-false (x.line == number)
+
+      its : (k : LinkTimer) → IsOf service tei (timer_of service tei k)
+      its T200 = inl refl
+      its T203 = inr refl
 
   pub fell : (events : List Event) (t : TimedCard) (x : Expiry) → Goes events t → due t.clock ≡ Some x → Goes (events ++ expiry_of x ∷ []) (with_event (expiry_of x) (record t { clock = without_first t.clock }))
   fell events t x g is = record {
     stands = stands-then c lengths late number ranged within service tei events u (expiry_of x) based here;
     lines = on-lines c.lines x.line u.clock (orders_in (answer (expiry_of x) u.card)) here all.1;
     timers_are = λ timer. event-now events u based (expiry_of x) timer
-        (λ other run. dropped-holds (Fresh timer t.clock) events t x is timer (ap (λ b. b && is_same x.timer (timer_of service tei timer)) other) (g.timers_are timer run))
+        (λ other run. drops t x is timer (ap (λ b. b && is_same x.timer (timer_of service tei timer)) other) (Fresh timer t.clock) (g.timers_are timer run))
         (λ own. kept timer own (is_same x.timer (timer_of service tei timer)) refl);
   }
     where
@@ -147,8 +166,7 @@ module _ (c : Config) (lengths : Lengths) (late number : ℕ) (ranged : IsInRang
       based = record { card = g.stands.card; all = g.stands.all; lengths_are = g.stands.lengths_are }
 
       kept : (timer : LinkTimer) → (x.line == number) ≡ true → (b : Bool) → is_same x.timer (timer_of service tei timer) ≡ b → Kept events u based (expiry_of x) timer
-      kept timer own false other run anew =
-          dropped-holds (Fresh timer t.clock) events t x is timer (ap (λ b. (x.line == number) && b) other ∙ ap (λ b. b && false) own) (g.timers_are timer run)
+      kept timer own false other run anew = drops t x is timer (ap (λ b. (x.line == number) && b) other ∙ ap (λ b. b && false) own) (Fresh timer t.clock) (g.timers_are timer run)
       kept timer own true mine run anew =
           absurd (true≢false (sym (subst (λ its. is_anew c service tei timer (view_of c service tei number events).link (view_behind c service tei number events (expiry its)).link (expiry its) ≡ true)
           (sym (same x.timer (timer_of service tei timer) mine)) (expired-anew c number ranged within service tei events g.stands.all timer run)) ∙ anew))

@@ -41,8 +41,7 @@ module _ (lines places : ℕ) where
   unfolding Served starts with_order
   served line [] c fit = (tt, refl)
   served line (Start timer ∷ orders) c fit =
-      let next = obey line c (Start timer) in
-      let is = started line timer c (omega (arith, fit)) in
+      let next = obey line c (Start timer) in let is = started line timer c (omega (arith, fit)) in
       let more = served line orders next (omega (arith, fit, count-start line timer c)) in (
         (omega (arith, fit), subst (FindPlaces places line c.now orders) (sym is) more.0),
         ap (carried_out line c.now orders) is ∙ more.1,
@@ -88,13 +87,11 @@ module _ (lines places : ℕ) where
     step falls_due t good prompt = falls t.card t.clock.lengths t.clock.now t.clock.running good
 
     -- any steps
-    all : (steps : List (Step Event)) (t : Timed Card) → Good t → ArePrompt k late steps t
-        → AllFind k places steps (beside t) × (after_all k steps (beside t) ≡ beside (timed.after_all k steps t))
+    all : (steps : List (Step Event)) (t : Timed Card) → Good t → ArePrompt k late steps t → AllFind k places steps (beside t) × (after_all k steps (beside t) ≡ beside (timed.after_all k steps t))
     unfolding AllFind after_all timed.after_all ArePrompt Goes
     all [] t good prompt = (tt, refl)
     all (s ∷ steps) t good prompt =
-        let its = step s t good prompt.0 in
-        let more = all steps (timed.after k s t) (goes-on s t good prompt.0) prompt.1 in
+        let its = step s t good prompt.0 in let more = all steps (timed.after k s t) (goes-on s t good prompt.0) prompt.1 in
         ((its.0, subst (AllFind k places steps) (sym its.1) more.0), ap (after_all k steps) its.1 ∙ more.1)
 
     pub keeps-up : (steps : List (Step Event)) (t : Timed Card) → Good t → ArePrompt k late steps t → KeepsUp k places steps (beside t) t
@@ -117,10 +114,7 @@ module _ (c : Config) (ranged : IsInRange c) where
 
   but-first : (card : Card) (clock : Clock) → Good c card clock → (x : Expiry) (rest : List Expiry) → clock.running ≡ x ∷ rest → AreLeft rest clock × (x.line < card.config.lines)
   but-first card clock good x rest is = (
-    record {
-      one = (subst IsOneEach is good.stands.one_each).1;
-      ran = λ line timer held. ap (is_held line timer) is ∙ ap (λ b. is_of line timer x || b) held ∙ or-true (is_of line timer x);
-    },
+    record { one = (subst IsOneEach is good.stands.one_each).1; ran = λ line timer held. ap (is_held line timer) is ∙ ap (λ b. is_of line timer x || b) held ∙ or-true (is_of line timer x) },
     (subst (AllByRecursion (λ (y : Expiry). y.line < card.config.lines)) is good.stands.on_lines).0,
   )
     where

@@ -1,24 +1,109 @@
--- A dead line is told.
-use Rattle.laws_time.proofs.Ended.{F, A, start-200, start-203, start-wait, ended}
-use Rattle.laws_time.proofs.Vocabulary.{ADeadLineIsTold, ArePrompt as TimedArePrompt, AreStill, Bool, Clock, Config, Event, Expiry, IsInRange, IsNoExpiry, IsStillAt, Lengths, LinkTimer, List, None, Note, Observed, Option, Service, Some, Step, T200, T203, TimedCard, Timer, View, [], after_all as timed_after_all, and-false, ap, append-nil, append_assoc, arith, at, at_moment, cond}
-use Rattle.laws_time.proofs.Vocabulary.{Moment}
-use Rattle.laws_time.proofs.Vocabulary.{due, eqb-true, event_of, events_of, expiry, falls_due, false, filter, inl, inr, is_news, is_of, is_on, is_same, is_some, is_timer_of, nat_le, news, news_in, notes_of, of_frames, option_map, option_map_or, option_to_list, refl, runs, state, step_happens as happens, subst, sym, time, timed_events_of}
-use Rattle.laws_time.proofs.Vocabulary.{told_in, true, true≢false, view_behind, view_of, without_first, ℕ, ⊎_elim, ◌&&◌, ◌++◌, ◌+◌, ◌<◌, ◌==◌, ◌∙◌, ◌∷◌, ◌≡◌, ◌≤◌, ◌⊎◌}
+-- What is told at first and in the end, over plain values.
+use Rattle.laws_time.proofs.Vocabulary.{ADeadLineIsTold, ArePrompt as TimedArePrompt, AreStill, Clock, Config, Event, Expiry, IsFront, IsInRange, IsNoExpiry, IsStillAt, IsToldInTime, Lengths, LinkTimer, List, Moment, None, Note, Observed, Option, Service, Some, Step, T200, T203, TimedCard, View, [], after_all as timed_after_all, all_in, ap, append-nil, append_assoc, arith}
+use Rattle.laws_time.proofs.Vocabulary.{at, at_moment, cond, due, eqb-true, event_of, events_of, expiry, falls_due, false, filter, first_in, inl, inr, is_news, is_on, is_some, length, length-append, mul-le, nat_le, news, news_in, notes_of, of_frames, option_map, option_map_or, option_to_list, refl, runs, state, step_happens as happens, subst, sym, time, by-bool}
+use Rattle.laws_time.proofs.Vocabulary.{timed_events_of, told_in, true, true≢false, view_behind, view_of, without_first, ℕ, ⊎_elim, ◌*◌, ◌++◌, ◌+◌, ◌-◌, ◌<◌, ◌==◌, ◌∙◌, ◌∷◌, ◌≡◌, ◌≤◌, ◌⊎◌}
 use Rattle.lapd_frame.specs.declared.timers.Timer.TheVariants as timers
 use Rattle.model_line.specs.Event as line_event
 use Rattle.model_card.specs.Card as cards
-use Rattle.model_card.specs.Machine.{answer}
 use Rattle.model_card.specs.Run as runs_of
+use Rattle.model_card.specs.Machine.{answer}
 use Rattle.model_timed.specs.Frames.{fresh, after, after_all, ArePrompt}
+use Rattle.laws_time.proofs.Silent.{Due200, Due203, owed, whole, one-more, Waits, waits-still, waits-200, waits-203, idle, idle-200-is, idle-203-is, idle-7, never-both, limit, IsPhase}
 use Rattle.laws_time.proofs.TimedFrames.{with_event, expiry_of, with_expiry as timed_expiry, IsPrompt}
 use Rattle.laws_time.proofs.Links.{view-then, on-where, state-is, elsewhere}
-use Rattle.laws_time.proofs.Moments.{at-lines, differs, each-timer}
+use Rattle.laws_time.proofs.Moments.{at-lines}
 use Rattle.laws_time.proofs.Effects.{is_its_expiry}
 use Rattle.laws_time.proofs.Walk.{Stands, Holds, seen}
 use Rattle.laws_time.proofs.Falls.{in-time}
-use Rattle.laws_time.proofs.Before.{Goes, other-line, step-goes, dropped-holds, before-goes, begins}
-use Rattle.laws_time.proofs.Silent.{Waits, waits-still, waits-200, waits-203, idle, idle-200-is, idle-203-is, idle-7, never-both}
-use Rattle.laws_time.proofs.Phases.{Due200, Due203, owed, limit, IsPhase}
+use Rattle.laws_time.proofs.Before.{Goes, Stays, other-line, step-goes, each-fall, before-goes, begins}
+
+mono : (n e x : ℕ) → (n - e) * x ≤ n * x
+mono n e x = mul-le (n - e) x n x (omega arith) (omega arith)
+
+four : (n : ℕ) → 4 ≤ n → n ≤ 8 → (n ≡ 4) ⊎ ((n ≡ 5) ⊎ ((n ≡ 6) ⊎ ((n ≡ 7) ⊎ (n ≡ 8))))
+four n low high = grind arith
+
+module _ (c : Config) (lengths : Lengths) (late now : ℕ) where
+  abbrev pub F : ℕ → ℕ
+  F from = now + first_in from late c lengths
+
+  abbrev pub A : ℕ → ℕ
+  A from = now + all_in from late c lengths
+
+  abbrev pub Start : ℕ → Type 0
+  Start from = (e m : ℕ) → m ≤ now + lengths.t200 → Due200 c lengths.t200 late (F from) (A from) from e m
+
+  whole-left : (e : ℕ) → (c.n200 - e) * (lengths.t200 + late) + (lengths.t200 + late) ≤ (c.n200 + 1) * (lengths.t200 + late)
+  whole-left e = omega (arith, mono c.n200 e (lengths.t200 + late), one-more c.n200 (lengths.t200 + late))
+
+  start-7 : Start 7
+  start-7 e m h = omega (arith, h)
+
+  start-8 : Start 8
+  start-8 e m h = omega (arith, h, whole-left e)
+
+  start-5 : Start 5
+  start-5 e m h = omega (arith, h, whole-left e)
+
+  start-6 : Start 6
+  start-6 e m h = omega (arith, h, whole-left e)
+
+  pub start-200 : (from : ℕ) → 5 ≤ from → from ≤ 8 → Start from
+  start-200 from low high = grind (arith, four, start-5, start-6, start-7, start-8)
+
+  pub start-203 : (m : ℕ) → m ≤ now + lengths.t203 → Due203 c lengths.t200 late (F 7) (A 7) m
+  start-203 m h = omega (arith, h)
+
+  abbrev pub Up : ℕ → Type 0
+  Up from = nat_le 7 from ≡ true → F from + whole c lengths.t200 late (F from) (A from) ≤ A from
+
+  pub start-wait : (from : ℕ) → 5 ≤ from → from ≤ 8 → Up from
+  start-wait from low high = grind arith
+
+  -- The end: a state, what was told, and a moment that T200 or T203 is not overdue.
+  module _ (service : Service) (tei : ℕ) (from : ℕ) (low : 5 ≤ from) (high : from ≤ 8) (to then_is : ℕ) (told : List Note) (told_is : told ++ owed service tei to ≡ told_in from service tei)
+      (waits_7 : (to ≡ 7) ⊎ (to ≡ 8) → then_is ≤ F from) (waits_5 : (to ≡ 5) ⊎ (to ≡ 6) → then_is ≤ A from) where
+    counted : length told + length (owed service tei to) ≡ length (told_in from service tei)
+    counted = sym (length-append told (owed service tei to)) ∙ ap length told_is
+
+    F-below : F from ≤ A from
+    F-below = omega arith
+
+    at-least : 2 ≤ length (told_in from service tei)
+    at-least = grind arith
+
+    -- In states 5 and 6, two are owed: either all of it, as at first, where both times are the same, or one was told.
+    two-owed : length (owed service tei to) ≡ 2 → then_is ≤ A from → F from < then_is → 1 ≤ length told
+    two-owed two bound later = go (four from (omega (arith, low)) high)
+      where
+        same-times : (n : ℕ) → from ≡ n → A n ≡ F n → 1 ≤ length told
+        same-times n is same = absurd (omega (arith, later, bound, subst (λ n. A n ≡ F n) (sym is) same))
+
+        go : (from ≡ 4) ⊎ ((from ≡ 5) ⊎ ((from ≡ 6) ⊎ ((from ≡ 7) ⊎ (from ≡ 8)))) → 1 ≤ length told
+        go (inl is) = absurd (omega (arith, low, is))
+        go (inr (inl is)) = same-times 5 is (omega arith)
+        go (inr (inr (inl is))) = same-times 6 is (omega arith)
+        go (inr (inr (inr (inl is)))) = let three : length (told_in from service tei) ≡ 3 = ap (λ n. length (told_in n service tei)) is in omega (arith, counted, two, three)
+        go (inr (inr (inr (inr is)))) = let three : length (told_in from service tei) ≡ 3 = ap (λ n. length (told_in n service tei)) is in omega (arith, counted, two, three)
+
+    pub ended : 4 ≤ to → to ≤ 8 → IsToldInTime late from c lengths service tei now then_is told
+    ended least most = go (four to least most)
+      where
+        front : IsFront told (told_in from service tei)
+        front = record { rest = owed service tei to; whole_is = sym told_is }
+
+        go : (to ≡ 4) ⊎ ((to ≡ 5) ⊎ ((to ≡ 6) ⊎ ((to ≡ 7) ⊎ (to ≡ 8)))) → IsToldInTime late from c lengths service tei now then_is told
+        go (inl is) =
+            let done : told ≡ told_in from service tei = sym (append-nil told) ∙ ap (λ n. told ++ owed service tei n) (sym is) ∙ told_is in
+            record { front = front; first = λ later. subst (λ ns. 1 ≤ length ns) (sym done) (omega (arith, at-least)); all = λ later. done }
+        go (inr (inl is)) = record { front = front; first = two-owed (ap (λ n. length (owed service tei n)) is) (waits_5 (inl is)); all = λ later. absurd (omega (arith, later, waits_5 (inl is))) }
+        go (inr (inr (inl is))) = record { front = front; first = two-owed (ap (λ n. length (owed service tei n)) is) (waits_5 (inr is)); all = λ later. absurd (omega (arith, later, waits_5 (inr is))) }
+        go (inr (inr (inr (inl is)))) =
+            record { front = front; first = λ later. absurd (omega (arith, later, waits_7 (inl is))); all = λ later. absurd (omega (arith, later, waits_7 (inl is), F-below)) }
+        go (inr (inr (inr (inr is)))) =
+            record { front = front; first = λ later. absurd (omega (arith, later, waits_7 (inr is))); all = λ later. absurd (omega (arith, later, waits_7 (inr is), F-below)) }
+
+-- ---- a dead line is told
 
 no-expiry : (service : Service) (tei : ℕ) (what : line_event.Event) → IsNoExpiry what → is_its_expiry service tei what ≡ false
 no-expiry service tei what none = grind arith
@@ -72,23 +157,8 @@ module _ (c : Config) (lengths : Lengths) (late number : ℕ) (ranged : IsInRang
         t203 = other-line c lengths late number ranged within service tei events u s DueAt203 e T203 other h203;
       }
 
-  -- An event, at one or the other.
-  event-waits : (events : List Event) (t u : TimedCard) (told : List Note) → W events t told → S events u → (e : Event) → G (events ++ e ∷ []) (with_event e u) → OnAfter events e
-      → ((e.line == number) ≡ false → H T200 events u.clock (DueAt200 events) × H T203 events u.clock DueAt203)
-      → ((e.line == number) ≡ true → G (events ++ at number e.what ∷ []) (with_event (at number e.what) u) → OnAfter events (at number e.what)
-      → W (events ++ at number e.what ∷ []) (with_event (at number e.what) u) (told ++ news_in of_frames service tei number (Some (at number e.what)) u.card))
-      → W (events ++ e ∷ []) (with_event e u) (told ++ news_in of_frames service tei number (Some e) u.card)
-  event-waits events t u told w s e g on apart here =
-      at-lines number
-      (λ e. G (events ++ e ∷ []) (with_event e u) → OnAfter events e → W (events ++ e ∷ []) (with_event e u) (told ++ news_in of_frames service tei number (Some e) u.card)) e
-      (λ other g on. let h = apart other in other-waits events t u told w s e other g on h.0 h.1) here g on
-
-  happens-waits : (events : List Event) (t : TimedCard) (told : List Note) → W events t told → (e : Event) → IsNoExpiry e.what → G (events ++ e ∷ []) (with_event e t) → OnAfter events e
-      → IsStillAt of_frames c service tei number (happens e) t → W (events ++ e ∷ []) (with_event e t) (told ++ news_in of_frames service tei number (Some e) t.card)
-  happens-waits events t told w e none g on still =
-      event-waits events t t told w w.goes.stands e g on (λ other. (w.t200, w.t203))
-      (λ own_line g2 on2. waits-still c lengths late number ranged within service tei first all whole_told events t t told w w.goes.stands e.what (behind-on events e.what on2) g2
-      (still (eqb-true e.line number own_line)) (no-expiry service tei e.what none) w.t200 w.t203)
+  abbrev Then : List Event → TimedCard → List Note → Event → Type 0
+  Then events u told e = G (events ++ e ∷ []) (with_event e u) → OnAfter events e → W (events ++ e ∷ []) (with_event e u) (told ++ news_in of_frames service tei number (Some e) u.card)
 
   -- A timer that falls due.
   module _ (events : List Event) (t : TimedCard) (told : List Note) (w : W events t told) (x : Expiry) (is : due t.clock ≡ Some x) where
@@ -98,65 +168,41 @@ module _ (c : Config) (lengths : Lengths) (late number : ℕ) (ranged : IsInRang
     based : S events u
     based = record { card = w.goes.stands.card; all = w.goes.stands.all; lengths_are = w.goes.stands.lengths_are }
 
-    drop-200 : (is_of number (timers.T200 service tei) x ≡ false) → H T200 events u.clock (DueAt200 events)
-    drop-200 other run = dropped-holds c lengths late number ranged within service tei (DueAt200 events) events t x is T200 other (w.t200 run)
+    stays-200 : Stays c lengths late number ranged within service tei t T200 → H T200 events u.clock (DueAt200 events)
+    stays-200 stays run = stays (DueAt200 events) (w.t200 run)
 
-    drop-203 : (is_of number (timers.T203 service tei) x ≡ false) → H T203 events u.clock DueAt203
-    drop-203 other run = dropped-holds c lengths late number ranged within service tei DueAt203 events t x is T203 other (w.t203 run)
+    stays-203 : Stays c lengths late number ranged within service tei t T203 → H T203 events u.clock DueAt203
+    stays-203 stays run = stays DueAt203 (w.t203 run)
 
-    by-line : (its : Timer) → (x.line == number) ≡ false → is_of number its x ≡ false
-    by-line its other = ap (λ b. b && is_same x.timer its) other
+    own-200 : Stays c lengths late number ranged within service tei t T203 → Then events u told (at number (expiry (timers.T200 service tei)))
+    own-200 stays g on = by-bool (runs T200 (o_at events))
+        (λ run. waits-200 c lengths late number ranged within service tei first all whole_told events t u told w based refl (behind-on events (expiry (timers.T200 service tei)) on) g run) (λ none.
+        idle c lengths late number ranged within service tei first all whole_told events t u told w based refl (timers.T200 service tei) (behind-on events (expiry (timers.T200 service tei)) on) g
+        (idle-200-is c lengths late number ranged within service tei first all whole_told events t u told w based refl none) (λ run. absurd (true≢false (sym run ∙ none)))
+        (stays-203 stays))
 
-    by-timer : (its : Timer) → is_same x.timer its ≡ false → is_of number its x ≡ false
-    by-timer its other = ap (λ b. (x.line == number) && b) other ∙ and-false (x.line == number)
+    own-203 : Stays c lengths late number ranged within service tei t T200 → Then events u told (at number (expiry (timers.T203 service tei)))
+    own-203 stays g on = by-bool (runs T203 (o_at events))
+        (λ run. waits-203 c lengths late number ranged within service tei first all whole_told events t u told w based refl (behind-on events (expiry (timers.T203 service tei)) on) g run) (λ none.
+        idle c lengths late number ranged within service tei first all whole_told events t u told w based refl (timers.T203 service tei) (behind-on events (expiry (timers.T203 service tei)) on) g
+        (idle-203-is c lengths late number ranged within service tei first all whole_told events t u told w based refl none)
+        (stays-200 stays) (λ run. absurd (true≢false (sym run ∙ none))))
 
-    abbrev Own : Timer → Type 0
-    Own timer = G (events ++ at number (expiry timer) ∷ []) (with_event (at number (expiry timer)) u) → OnAfter events (at number (expiry timer))
-        → W (events ++ at number (expiry timer) ∷ []) (with_event (at number (expiry timer)) u) (told ++ news_in of_frames service tei number (Some (at number (expiry timer))) u.card)
-
-    foreign : (timer : Timer) → x.timer ≡ timer → is_timer_of service tei timer ≡ false → Own timer
-    foreign timer same none g on =
-        waits-still c lengths late number ranged within service tei first all whole_told events t u told w based (expiry timer) (behind-on events (expiry timer) on) g refl none
-        (drop-200 (by-timer (timers.T200 service tei) (ap (λ timer. is_same timer (timers.T200 service tei)) same ∙ differs service tei timer (timers.T200 service tei) (inl refl) none)))
-        (drop-203 (by-timer (timers.T203 service tei) (ap (λ timer. is_same timer (timers.T203 service tei)) same ∙ differs service tei timer (timers.T203 service tei) (inr refl) none)))
-
-    own-200 : x.timer ≡ timers.T200 service tei → Own (timers.T200 service tei)
-    own-200 same g on = go (runs T200 (o_at events)) refl
-      where
-        go : (b : Bool) → runs T200 (o_at events) ≡ b → W (events ++ at number (expiry (timers.T200 service tei)) ∷ []) (with_event (at number (expiry (timers.T200 service tei))) u) (told ++ news_in of_frames service tei number (Some (at number (expiry (timers.T200 service tei)))) u.card)
-        go true run = waits-200 c lengths late number ranged within service tei first all whole_told events t u told w based refl (behind-on events (expiry (timers.T200 service tei)) on) g run
-        go false none =
-            idle c lengths late number ranged within service tei first all whole_told events t u told w based refl (timers.T200 service tei) (behind-on events (expiry (timers.T200 service tei)) on) g
-            (idle-200-is c lengths late number ranged within service tei first all whole_told events t u told w based refl none)
-            (λ run. absurd (true≢false (sym run ∙ none)))
-            (drop-203 (by-timer (timers.T203 service tei) (ap (λ timer. is_same timer (timers.T203 service tei)) same)))
-
-    own-203 : x.timer ≡ timers.T203 service tei → Own (timers.T203 service tei)
-    own-203 same g on = go (runs T203 (o_at events)) refl
-      where
-        go : (b : Bool) → runs T203 (o_at events) ≡ b → W (events ++ at number (expiry (timers.T203 service tei)) ∷ []) (with_event (at number (expiry (timers.T203 service tei))) u) (told ++ news_in of_frames service tei number (Some (at number (expiry (timers.T203 service tei)))) u.card)
-        go true run = waits-203 c lengths late number ranged within service tei first all whole_told events t u told w based refl (behind-on events (expiry (timers.T203 service tei)) on) g run
-        go false none =
-            idle c lengths late number ranged within service tei first all whole_told events t u told w based refl (timers.T203 service tei) (behind-on events (expiry (timers.T203 service tei)) on) g
-            (idle-203-is c lengths late number ranged within service tei first all whole_told events t u told w based refl none)
-            (drop-200 (by-timer (timers.T200 service tei) (ap (λ timer. is_same timer (timers.T200 service tei)) same)))
-            (λ run. absurd (true≢false (sym run ∙ none)))
-
-    any : (timer : Timer) → x.timer ≡ timer → Own timer
-    any = each-timer service tei (λ timer. x.timer ≡ timer → Own timer) (λ timer none same. foreign timer same none) own-200 own-203
-
-    fell-waits : G (events ++ expiry_of x ∷ []) (with_event (expiry_of x) u) → OnAfter events (expiry_of x)
-        → W (events ++ expiry_of x ∷ []) (with_event (expiry_of x) u) (told ++ news_in of_frames service tei number (Some (expiry_of x)) u.card)
-    fell-waits g on =
-        event-waits events t u told w based (expiry_of x) g on
-        (λ other. (drop-200 (by-line (timers.T200 service tei) other), drop-203 (by-line (timers.T203 service tei) other))) (λ own_line g2 on2. any x.timer refl g2 on2)
+    fell-waits : Then events u told (expiry_of x)
+    fell-waits =
+        each-fall c lengths late number ranged within service tei (Then events u told) t x is
+        (λ stays other g on. other-waits events t u told w based (expiry_of x) other g on (stays-200 (stays T200)) (stays-203 (stays T203)))
+        (λ stays timer none g on. waits-still c lengths late number ranged within service tei first all whole_told events t u told w based (expiry timer) (behind-on events (expiry timer) on) g refl none
+        (stays-200 (stays T200)) (stays-203 (stays T203))) (λ stays own same. own-200 stays) own-203
 
   -- A step.
   step-waits : (events : List Event) (t : TimedCard) (told : List Note) (d : Step Event) → W events t told → IsPrompt late d t → IsStillAt of_frames c service tei number d t
       → is_some (state number service tei (after d t).card) ≡ true → W (events ++ option_to_list (event_of d t)) (after d t) (told ++ news_in of_frames service tei number (event_of d t) t.card)
   step-waits events t told (happens e) w prompt still some =
       let g = step-goes c lengths late number ranged within service tei events t (happens e) w.goes prompt in
-      happens-waits events t told w e prompt.1 g (on-now (events ++ e ∷ []) (with_event e t) g some) still
+      at-lines number (Then events t told) e (λ other g on. other-waits events t t told w w.goes.stands e other g on w.t200 w.t203)
+      (λ own g on. waits-still c lengths late number ranged within service tei first all whole_told events t t told w w.goes.stands e.what (behind-on events e.what on) g
+      (still (eqb-true e.line number own)) (no-expiry service tei e.what prompt.1) w.t200 w.t203) g (on-now (events ++ e ∷ []) (with_event e t) g some)
   step-waits events t told (time moment) w prompt still some =
       let u = record t { clock = at_moment moment t.clock } in
       subst (λ es. W es (record t { clock = at_moment moment t.clock }) (told ++ [])) (sym (append-nil events))
@@ -172,11 +218,9 @@ module _ (c : Config) (lengths : Lengths) (late number : ℕ) (ranged : IsInRang
       }))
   step-waits events t told falls_due w prompt still some = go (due t.clock) refl (step-goes c lengths late number ranged within service tei events t falls_due w.goes prompt) some
     where
-      go : (o : Option Expiry) → due t.clock ≡ o
-          → G (events ++ option_to_list (option_map expiry_of o)) (option_map_or (timed_expiry t) o t)
+      go : (o : Option Expiry) → due t.clock ≡ o → G (events ++ option_to_list (option_map expiry_of o)) (option_map_or (timed_expiry t) o t)
           → is_some (state number service tei (option_map_or (timed_expiry t) o t).card) ≡ true
-          → W (events ++ option_to_list (option_map expiry_of o)) (option_map_or (timed_expiry t) o t)
-          (told ++ news_in of_frames service tei number (option_map expiry_of o) t.card)
+          → W (events ++ option_to_list (option_map expiry_of o)) (option_map_or (timed_expiry t) o t) (told ++ news_in of_frames service tei number (option_map expiry_of o) t.card)
       go None is g on = subst (λ es. W es t (told ++ [])) (sym (append-nil events)) (subst (W events t) (sym (append-nil told)) w)
       go (Some x) is g on = fell-waits events t told w x is g (on-now (events ++ expiry_of x ∷ []) (timed_expiry t x) g on)
 
@@ -225,14 +269,11 @@ a-dead-line-is-told service c lengths late number tei from before steps ranged w
     g : Goes c lengths late number ranged within service tei (events_of before (fresh c lengths)) (after_all before (fresh c lengths))
     g = before-goes c lengths late number ranged within service tei [] (fresh c lengths) before (begins c lengths late number ranged within service tei) prompt_before
 
-    there_from : state number service tei (runs_of.after_all (cards.fresh c) (events_of before (fresh c lengths))) ≡ Some from
-    there_from = ap (state number service tei) (sym g.stands.card) ∙ at_from
-
     o : Observed
     o = seen c lengths late number ranged within service tei events
 
     state_is : (seen c lengths late number ranged within service tei (events_of before (fresh c lengths))).state ≡ from
-    state_is = state-is c (events_of before (fresh c lengths)) number ranged g.stands.all within service tei from there_from
+    state_is = state-is c (events_of before (fresh c lengths)) number ranged g.stands.all within service tei from (ap (state number service tei) (sym g.stands.card) ∙ at_from)
 
     high : from ≤ 8
     high = told-low service tei number (after_all before (fresh c lengths)).card from at_from
@@ -246,7 +287,7 @@ a-dead-line-is-told service c lengths late number tei from before steps ranged w
     w : Waits c lengths late number ranged within service tei first all (told_in from service tei) events t []
     w = record {
       goes = g;
-      on = on-where c (events_of before (fresh c lengths)) number ranged g.stands.all within service tei (ap is_some there_from);
+      on = on-where c (events_of before (fresh c lengths)) number ranged g.stands.all within service tei (ap is_some (ap (state number service tei) (sym g.stands.card) ∙ at_from));
       phase = record { least = omega (arith, low, state_is); most = omega (arith, high, state_is) };
       told_is = ap (owed service tei) state_is ∙ owed-is service tei from low;
       wait = λ up. start-wait c lengths late t.clock.now from low high (ap (nat_le 7) (sym state_is) ∙ up);
@@ -261,8 +302,7 @@ a-dead-line-is-told service c lengths late number tei from before steps ranged w
         d.0,
         d.1,
         d.2,
-        subst (λ n. Due203 c lengths.t200 late (F c lengths late t.clock.now n) (A c lengths late t.clock.now n) d.0) (sym at_7.0 ∙ state_is)
-            (start-203 c lengths late t.clock.now d.0 d.3),
+        subst (λ n. Due203 c lengths.t200 late (F c lengths late t.clock.now n) (A c lengths late t.clock.now n) d.0) (sym at_7.0 ∙ state_is) (start-203 c lengths late t.clock.now d.0 d.3),
       );
     }
 

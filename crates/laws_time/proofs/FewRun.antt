@@ -79,8 +79,7 @@ module _ (c : Config) (l : Line) (s : IsSound c l) where
     counted : (es : List Expiry) → count_on line es ≡ length (numbers es)
     counted [] = refl
     counted (e ∷ es) =
-        count_cons (λ (x : Expiry). x.line == line) e es
-        ∙ (elim (e.line == line) as (λ b. cond {A = ℕ} b 1 0 + count_on line es ≡ length (cond b (number e.timer ∷ numbers es) (numbers es))) [
+        count_cons (λ (x : Expiry). x.line == line) e es ∙ (elim (e.line == line) as (λ b. cond {A = ℕ} b 1 0 + count_on line es ≡ length (cond b (number e.timer ∷ numbers es) (numbers es))) [
           | true ↦ omega (arith, counted es)
           | false ↦ omega (arith, counted es)
         ])

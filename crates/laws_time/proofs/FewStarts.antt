@@ -49,10 +49,7 @@ module _ (c : Config) where
 
   -- a link starts one timer at most
   by-link : (l : Line) (service : Service) (tei place : ℕ) (e : LinkEvent) → starts (of_aim c (at_link service tei place e) l).told.orders ≤ 2
-  by-link l service tei place e =
-      let t = terms c service tei in
-      let x = link_in l service place in
-      omega (arith, one-start t x.running (course t e x).started (course t e x).link.running)
+  by-link l service tei place e = let t = terms c service tei in let x = link_in l service place in omega (arith, one-start t x.running (course t e x).started (course t e x).link.running)
 
   managed : (l : Line) → IsSound c l → (e : TeiEvent) → tei_laws.IsInRange e → starts (of_aim c (at_management e) l).told.orders ≤ 2
   managed l s e fits = by-managed c l s (λ o f. starts f.told.orders ≤ 2) e fits (λ o told m own step. of-change o told (record l { management = m; own = own }) step.few_orders)

@@ -2,12 +2,9 @@
 pub mod Plain
 pub mod Vocabulary
 pub mod TimedCards
-pub mod DueFirst
-pub mod CallersClocks
 pub mod FewStarts
 pub mod FewRun
 pub mod BesideACard
-pub mod FallingDue
 pub mod TimedFrames
 pub mod Moments
 pub mod Links
@@ -17,14 +14,11 @@ pub mod Ordered
 pub mod Walk
 pub mod Falls
 pub mod Before
-pub mod Phases
 pub mod Silent
-pub mod Ended
 pub mod DeadLine
 pub mod OctetsMean
 pub mod ArrivalsAwaited
 pub mod ArrivalsOfOctets
-pub mod ArrivalsErrors
 pub mod ArrivalsOneEvent
 pub mod ArrivalsUsedUp
 pub mod OfCircuit

@@ -1,54 +1,15 @@
 -- When a timer of a link falls due behind orders.
-use Rattle.laws_time.proofs.Vocabulary.{Event, Bool, Clock, List, None, Option, Order, Ordering, Service, Some, Start, Stop, Timers, [], ap, arith, both-true, cond, count_on, duration, eq-eqb, eqb-true, expiry_of, false, filter, finds_place, fold, is_eq, is_order_of, is_own, is_same, is_timer_of, moment_of, obey, obeyed, own-is, refl, same_service, same_timer, services-equal}
-use Rattle.laws_time.proofs.Vocabulary.{subst, at}
-use Rattle.laws_time.proofs.Vocabulary.{sym, timer_cmp, timer_total, true, with_order, without, ℕ, ◌&&◌, ◌+◌, ◌==◌, ◌∙◌, ◌∷◌, ◌≡◌, ◌⊎◌}
+use Rattle.laws_time.proofs.Vocabulary.{Event, Bool, Clock, List, None, Option, Order, Service, Some, Start, Stop, [], ap, arith, both-true, cond, duration, eq-eqb, eqb-true, false, filter, fold, is_order_of, is_own, is_same, is_timer_of, moment_of, obey, obeyed, own-is, refl, same_service, services-equal, at}
+use Rattle.laws_time.proofs.Vocabulary.{true, ℕ, ◌&&◌, ◌+◌, ◌==◌, ◌∙◌, ◌∷◌, ◌≡◌, ◌⊎◌}
+pub use Rattle.model_timed.proofs.Orders.{equal as same, itself, lengths-stay, now-stays}
+use Rattle.model_timed.proofs.Orders.{start-moves, stop-moves}
 use Rattle.lapd_clock.specs.Timer.{Timer, T200, T203}
-use Rattle.lapd_clock.specs.Timers.{with_expiry}
 use Rattle.lapd_frame.specs.declared.timers.Timer.TheVariants as timers
 use Rattle.model_line.specs.Event as line_event
-use Rattle.lapd_clock.proofs.OneMoved.{start_moves_one, stop_moves_one}
-use Rattle.std.proofs.lemmas.Cmp.{eq_by_cmp_equiv}
-use Rattle.std.specs.declared.cmp.Ordering.TheVariants.{Equal}
-
--- A clock that has a place left.
-abbrev roomy : ℕ → Clock → Timers
-roomy line c = record { lines = 0; places = count_on line c.running + 1; lengths = c.lengths; running = c.running }
-
-place : (line : ℕ) (timer : Timer) (c : Clock) → finds_place (roomy line c) line (Start timer) ≡ true
-unfolding finds_place
-place line timer c = grind arith
-
-same-list : (line : ℕ) (timer : Timer) (c : Clock) → (with_order (roomy line c) line (Start timer) c.now).running ≡ (obey line c (Start timer)).running
-unfolding with_order
-same-list line timer c =
-    ap (λ b. (cond {A = Timers} b (record (roomy line c) { running = with_expiry (expiry_of line timer c) (without line timer c.running) }) (roomy line c)).running) (place line timer c)
-
-pub started : (line : ℕ) (timer : Timer) (c : Clock) → moment_of line timer (obey line c (Start timer)).running ≡ Some (c.now + duration c.lengths timer)
-started line timer c = ap (moment_of line timer) (sym (same-list line timer c)) ∙ (start_moves_one (roomy line c) line timer c.now (place line timer c)).own
-
-pub started-others : (line : ℕ) (timer : Timer) (c : Clock) (l : ℕ) (t : Timer) → (line == l && is_same timer t) ≡ false → moment_of l t (obey line c (Start timer)).running ≡ moment_of l t c.running
-started-others line timer c l t apart = ap (moment_of l t) (sym (same-list line timer c)) ∙ (start_moves_one (roomy line c) line timer c.now (place line timer c)).others l t apart
-
-pub ended : (line : ℕ) (timer : Timer) (c : Clock) → moment_of line timer (obey line c (Stop timer)).running ≡ None
-unfolding with_order
-ended line timer c = (stop_moves_one (roomy line c) line timer c.now).own
-
-pub ended-others : (line : ℕ) (timer : Timer) (c : Clock) (l : ℕ) (t : Timer) → (line == l && is_same timer t) ≡ false → moment_of l t (obey line c (Stop timer)).running ≡ moment_of l t c.running
-unfolding with_order
-ended-others line timer c l t apart = (stop_moves_one (roomy line c) line timer c.now).others l t apart
 
 -- A timer of the link, or not.
 abbrev pub IsOf : Service → ℕ → Timer → Type 0
 IsOf service tei its = (its ≡ T200 service tei) ⊎ (its ≡ T203 service tei)
-
-pub itself : (its : Timer) → is_same its its ≡ true
-itself its = (eq_by_cmp_equiv timer_total).refl its
-
-equal : (r : Ordering) → is_eq r ≡ true → r ≡ Equal
-equal r e = grind arith
-
-pub same : (a b : Timer) → is_same a b ≡ true → a ≡ b
-same a b e = same_timer a b (equal (timer_cmp a b) e)
 
 -- What orders make of the moment of one timer, where a timer that is started falls due so.
 abbrev pub by_order : Timer → ℕ → Option ℕ → Order → Option ℕ
@@ -63,16 +24,8 @@ module _ (line : ℕ) (its : Timer) where
   here = eq-eqb line line refl
 
   one : (c : Clock) (o : Order) → moment_of line its (obey line c o).running ≡ by_order its (c.now + duration c.lengths its) (moment_of line its c.running) o
-  one c (Start timer) = go (is_same timer its) refl
-    where
-      go : (b : Bool) → is_same timer its ≡ b → moment_of line its (obey line c (Start timer)).running ≡ cond b (Some (c.now + duration c.lengths its)) (moment_of line its c.running)
-      go true e = subst (λ t. moment_of line its (obey line c (Start t)).running ≡ Some (c.now + duration c.lengths its)) (sym (same timer its e)) (started line its c)
-      go false e = started-others line timer c line its (ap (λ b. line == line && b) e ∙ ap (λ b. b && false) here)
-  one c (Stop timer) = go (is_same timer its) refl
-    where
-      go : (b : Bool) → is_same timer its ≡ b → moment_of line its (obey line c (Stop timer)).running ≡ cond b None (moment_of line its c.running)
-      go true e = subst (λ t. moment_of line its (obey line c (Stop t)).running ≡ None) (sym (same timer its e)) (ended line its c)
-      go false e = ended-others line timer c line its (ap (λ b. line == line && b) e ∙ ap (λ b. b && false) here)
+  one c (Start timer) = start-moves line timer c line its ∙ ap (λ b. cond (b && is_same timer its) (Some (c.now + duration c.lengths its)) (moment_of line its c.running)) here
+  one c (Stop timer) = stop-moves line timer c line its ∙ ap (λ b. cond (b && is_same timer its) None (moment_of line its c.running)) here
 
   kept : (c : Clock) (o : Order) → ((obey line c o).now ≡ c.now) × ((obey line c o).lengths ≡ c.lengths)
   kept c o = grind arith
@@ -87,19 +40,11 @@ module _ (line : ℕ) (its : Timer) where
 -- Orders at another line.
 pub elsewhere : (line l : ℕ) (its : Timer) (c : Clock) (orders : List Order) → (l == line) ≡ false → moment_of line its (obeyed l orders c).running ≡ moment_of line its c.running
 elsewhere line l its c [] other = refl
-elsewhere line l its c (Start timer ∷ orders) other = elsewhere line l its (obey l c (Start timer)) orders other ∙ started-others l timer c line its (ap (λ b. b && is_same timer its) other)
-elsewhere line l its c (Stop timer ∷ orders) other = elsewhere line l its (obey l c (Stop timer)) orders other ∙ ended-others l timer c line its (ap (λ b. b && is_same timer its) other)
-
--- The moment and the lengths stay.
-pub now-stays : (line : ℕ) (c : Clock) (orders : List Order) → (obeyed line orders c).now ≡ c.now
-now-stays line c [] = refl
-now-stays line c (Start timer ∷ orders) = now-stays line (obey line c (Start timer)) orders
-now-stays line c (Stop timer ∷ orders) = now-stays line (obey line c (Stop timer)) orders
-
-pub lengths-stay : (line : ℕ) (c : Clock) (orders : List Order) → (obeyed line orders c).lengths ≡ c.lengths
-lengths-stay line c [] = refl
-lengths-stay line c (Start timer ∷ orders) = lengths-stay line (obey line c (Start timer)) orders
-lengths-stay line c (Stop timer ∷ orders) = lengths-stay line (obey line c (Stop timer)) orders
+elsewhere line l its c (Start timer ∷ orders) other =
+    elsewhere line l its (obey l c (Start timer)) orders other ∙ start-moves l timer c line its
+    ∙ ap (λ b. cond (b && is_same timer its) (Some (c.now + duration c.lengths its)) (moment_of line its c.running)) other
+elsewhere line l its c (Stop timer ∷ orders) other =
+    elsewhere line l its (obey l c (Stop timer)) orders other ∙ stop-moves l timer c line its ∙ ap (λ b. cond (b && is_same timer its) None (moment_of line its c.running)) other
 
 -- Only the orders of the link count.
 pub own : (service : Service) (tei : ℕ) (its other : Timer) → IsOf service tei its → is_same other its ≡ true → is_timer_of service tei other ≡ true
@@ -137,8 +82,7 @@ pub of-link : (service : Service) (tei : ℕ) (its : Timer) (then : ℕ) (orders
     → by_orders its then orders m ≡ by_orders its then (filter (is_order_of service tei) orders) m
 of-link service tei its then [] m of = refl
 of-link service tei its then (o ∷ orders) m of =
-    of-link service tei its then orders (by_order its then m o) of
-    ∙ by-first service tei its then o (filter (is_order_of service tei) orders) m of (is_order_of service tei o) refl
+    of-link service tei its then orders (by_order its then m o) of ∙ by-first service tei its then o (filter (is_order_of service tei) orders) m of (is_order_of service tei o) refl
 
 -- What holds of events of a line and of the others holds of any.
 pub at-lines : (number : ℕ) (P : Event → Type 0) (e : Event) → ((e.line == number) ≡ false → P e) → ((e.line == number) ≡ true → P (at number e.what)) → P e

@@ -45,16 +45,13 @@ module _ (e : Event) (m : OctetCard) where
   unfolding moments meant
   says = All-head IsAnswered (record { card = m; event = e; answer = ports_answer e m }) [] (all_answered m (e ∷ []))
 
-  abbrev said_to : line.Event → Answer
-  said_to what = machine.answer (at e.line what) m.card
-
-  said-so : {A : Type 0} (f : Answer → List A) (o : Option line.Event) → option_map_or f (option_map (answer_to m.card) (option_map (at e.line) o)) [] ≡ option_map_or (λ what. f (said_to what)) o []
+  said-so : {A : Type 0} (f : Answer → List A) (o : Option line.Event) → option_map_or f (option_map (answer_to m.card) (option_map (at e.line) o)) [] ≡ option_map_or (λ what. f (machine.answer (at e.line what) m.card)) o []
   said-so f o = grind arith
 
-  pub orders-are : (o : Option line.Event) → meant_at e m ≡ o → orders_of (ports_answer e m) ≡ option_map_or (λ what. orders_in (said_to what)) o []
+  pub orders-are : (o : Option line.Event) → meant_at e m ≡ o → orders_of (ports_answer e m) ≡ option_map_or (λ what. orders_in (machine.answer (at e.line what) m.card)) o []
   orders-are o is = (says-both e.what (ports_answer e m) (meaning (meant_at e m)) says).0 ∙ ap (λ o. option_map_or orders_in (meaning o) []) is ∙ said-so orders_in o
 
-  pub notes-are : (o : Option line.Event) → meant_at e m ≡ o → notes_in (ports_answer e m) ≡ option_map_or (λ what. notes_of (said_to what)) o []
+  pub notes-are : (o : Option line.Event) → meant_at e m ≡ o → notes_in (ports_answer e m) ≡ option_map_or (λ what. notes_of (machine.answer (at e.line what) m.card)) o []
   notes-are o is = (says-both e.what (ports_answer e m) (meaning (meant_at e m)) says).1 ∙ ap (λ o. option_map_or notes_of (meaning o) []) is ∙ said-so notes_of o
 
   card-is : (o : Option line.Event) → meant_at e m ≡ o → (ports_after e m).card ≡ option_map_or (λ what. machine.after (at e.line what) m.card) o m.card
@@ -64,13 +61,10 @@ module _ (e : Event) (m : OctetCard) where
 abbrev timed : Card → Clock → TimedCard
 timed card clock = record { card = card; clock = clock }
 
-same-both : {a b : Card} {k l : Clock} → a ≡ b → k ≡ l → timed a k ≡ timed b l
-same-both p q = λ i. timed (p i) (q i)
-
 pub event-inside : (e : Event) (t : TimedOctetCard) (o : Option line.Event) → meant_at e t.card ≡ o
     → inside (with_octets e t) ≡ option_map_or (λ what. with_event frames (at e.line what) (inside t)) o (inside t)
-event-inside e t None is = same-both (card-is e t.card None is) (ap (λ os. obeyed e.line os t.clock) (orders-are e t.card None is))
-event-inside e t (Some what) is = same-both (card-is e t.card (Some what) is) (ap (λ os. obeyed e.line os t.clock) (orders-are e t.card (Some what) is))
+event-inside e t None is = λ i. timed ((card-is e t.card None is) i) ((ap (λ os. obeyed e.line os t.clock) (orders-are e t.card None is)) i)
+event-inside e t (Some what) is = λ i. timed ((card-is e t.card (Some what) is) i) ((ap (λ os. obeyed e.line os t.clock) (orders-are e t.card (Some what) is)) i)
 
 pub fallen-inside : (t : TimedOctetCard) (o : Option Expiry) → inside (option_map_or (with_expiry octets t) o t) ≡ option_map_or (with_expiry frames (inside t)) o (inside t)
 fallen-inside t None = refl
@@ -87,8 +81,7 @@ steps-inside (happens e ∷ steps) t = steps-inside steps (with_octets e t) ∙ 
     go None is = ap (after_all frames (frame_steps steps (with_octets e t))) (event-inside e t None is)
     go (Some what) is = ap (after_all frames (frame_steps steps (with_octets e t))) (event-inside e t (Some what) is)
 steps-inside (time moment ∷ steps) t = steps-inside steps (next_octets (time moment) t)
-steps-inside (falls_due ∷ steps) t =
-    steps-inside steps (next_octets falls_due t) ∙ ap (after_all frames (frame_steps steps (next_octets falls_due t))) (fallen-inside t (due t.clock))
+steps-inside (falls_due ∷ steps) t = steps-inside steps (next_octets falls_due t) ∙ ap (after_all frames (frame_steps steps (next_octets falls_due t))) (fallen-inside t (due t.clock))
 
 -- It is as prompt,
 no-expiry : (n201 : ℕ) (what : port.Event) (p : port.Port) (x : line.Event) → IsNoExpiry what → port.meant n201 what p ≡ Some x → FrameIsNoExpiry x
@@ -115,9 +108,6 @@ module _ (c : Config) (service : Service) (tei number : ℕ) where
   abbrev Still : List (Step FrameEvent) → TimedCard → Type 0
   Still steps t = AreStill of_frames c service tei number steps t
 
-  abbrev IsThere : TimedCard → Type 0
-  IsThere t = is_some (state number service tei t.card) ≡ true
-
   pub still-inside : (steps : List (Step Event)) (t : TimedOctetCard) → AreStill of_octets c service tei number steps t → Still (frame_steps steps t) (inside t)
   unfolding AreStill frame_steps
   still-inside [] t still = tt
@@ -129,13 +119,13 @@ module _ (c : Config) (service : Service) (tei number : ℕ) where
       go (Some what) is later =
           let its = event-inside e t (Some what) is in (
             (λ here. sym (ap (λ o. option_map_or (is_stirred c service tei) o false) is) ∙ still.0 here),
-            subst IsThere its still.1,
+            subst (λ (t : TimedCard). is_some (state number service tei t.card) ≡ true) its still.1,
             subst (Still (frame_steps steps (with_octets e t))) its later,
           )
   still-inside (time moment ∷ steps) t still = (tt, still.1, still-inside steps (next_octets (time moment) t) still.2)
   still-inside (falls_due ∷ steps) t still =
       let its = fallen-inside t (due t.clock) in
-      (tt, subst IsThere its still.1, subst (Still (frame_steps steps (next_octets falls_due t))) its (still-inside steps (next_octets falls_due t) still.2))
+      (tt, subst (λ (t : TimedCard). is_some (state number service tei t.card) ≡ true) its still.1, subst (Still (frame_steps steps (next_octets falls_due t))) its (still-inside steps (next_octets falls_due t) still.2))
 
   -- and the same is told.
   abbrev News : List (Step FrameEvent) → TimedCard → List Note
@@ -163,8 +153,7 @@ module _ (c : Config) (service : Service) (tei number : ℕ) where
   news-inside (happens e ∷ steps) t =
       ap (λ ns. news_in of_octets service tei number (Some e) t.card ++ ns) (news-inside steps (with_octets e t)) ∙ go (meant_at e t.card) refl
     where
-      go : (o : Option line.Event) → meant_at e t.card ≡ o
-          → news_in of_octets service tei number (Some e) t.card ++ News (frame_steps steps (with_octets e t)) (inside (with_octets e t))
+      go : (o : Option line.Event) → meant_at e t.card ≡ o → news_in of_octets service tei number (Some e) t.card ++ News (frame_steps steps (with_octets e t)) (inside (with_octets e t))
           ≡ News (put o e.line (frame_steps steps (with_octets e t))) (inside t)
       go None is =
           ap (λ ns. ns ++ News (frame_steps steps (with_octets e t)) (inside (with_octets e t))) (own-news e t.card None is)

@@ -1,5 +1,5 @@
 -- The moments of the timers of a link behind an event of its line.
-use Rattle.laws_time.proofs.Vocabulary.{AreAtLines, Bool, Clock, Config, IsInRange, LinkTimer, List, None, Observed, Option, Service, Some, T200, T203, Timer, [], ap, cond, duration, false, fold-append, is_anew, is_same, moment_of, not, obeyed, order_due, orders_due, orders_in, refl, runs, timer_of, view_behind, view_of, ℕ, ◌&&◌, ◌++◌, ◌+◌, ◌<◌, ◌||◌, ◌∙◌, ◌∷◌, ◌≡◌, arith}
+use Rattle.laws_time.proofs.Vocabulary.{AreAtLines, Bool, Clock, Config, IsInRange, LinkTimer, List, None, Observed, Option, Service, Some, T200, T203, Timer, [], ap, cond, duration, false, fold-append, is_anew, is_same, moment_of, not, obeyed, order_due, orders_due, orders_in, refl, runs, timer_of, view_behind, view_of, ℕ, ◌&&◌, ◌+◌, ◌<◌, ◌||◌, ◌∙◌, ◌∷◌, ◌≡◌, arith}
 use Rattle.lapd_frame.specs.declared.timers.Order.{Order}
 use Rattle.lapd_frame.specs.declared.timers.Order.TheVariants.{Start, Stop}
 use Rattle.lapd_frame.specs.declared.timers.Timer.TheVariants as timers
@@ -24,17 +24,14 @@ module _ (service : Service) (tei : ℕ) (then_due : ℕ) where
       → let its = timer_of service tei other in by_orders (timer_of service tei timer) then_due (cond a (Start its ∷ []) (cond b (Stop its ∷ []) [])) m ≡ m
   apart timer other h b m differs = grind arith
 
-  both : (its : Timer) (xs ys : List Order) (m : Option ℕ) → by_orders its then_due (xs ++ ys) m ≡ by_orders its then_due ys (by_orders its then_due xs m)
-  both its xs ys m = fold-append (by_order its then_due) m xs ys
-
   pub left-is : (c : Config) (o q : Observed) (what : Event) (m : Option ℕ) (timer : LinkTimer)
       → by_orders (timer_of service tei timer) then_due (orders_due c service tei o q what) m ≡ left c service tei timer o q what then_due m
   left-is c o q what m T200 =
-      both (timers.T200 service tei) (order_due c service tei o q what T200 (timers.T200 service tei)) (order_due c service tei o q what T203 (timers.T203 service tei)) m
+      fold-append (by_order (timers.T200 service tei) then_due) m (order_due c service tei o q what T200 (timers.T200 service tei)) (order_due c service tei o q what T203 (timers.T203 service tei))
       ∙ apart T200 T203 (starts c service tei T203 o q what) (runs T203 o && not (runs T203 q)) (by_orders (timers.T200 service tei) then_due (order_due c service tei o q what T200 (timers.T200 service tei)) m) refl
       ∙ half (timers.T200 service tei) (starts c service tei T200 o q what) (runs T200 o && not (runs T200 q)) m
   left-is c o q what m T203 =
-      both (timers.T203 service tei) (order_due c service tei o q what T200 (timers.T200 service tei)) (order_due c service tei o q what T203 (timers.T203 service tei)) m
+      fold-append (by_order (timers.T203 service tei) then_due) m (order_due c service tei o q what T200 (timers.T200 service tei)) (order_due c service tei o q what T203 (timers.T203 service tei))
       ∙ half (timers.T203 service tei) (starts c service tei T203 o q what) (runs T203 o && not (runs T203 q)) (by_orders (timers.T203 service tei) then_due (order_due c service tei o q what T200 (timers.T200 service tei)) m)
       ∙ ap (left c service tei T203 o q what then_due) (apart T203 T200 (starts c service tei T200 o q what) (runs T200 o && not (runs T200 q)) m refl)
 
@@ -59,5 +56,4 @@ module _ (c : Config) (events : List card.Event) (number : ℕ) (ranged : IsInRa
   moment-left =
       let t = b.now + duration b.lengths its in let m = moment_of number its b.running in
       all number its b ordered ∙ of-link service tei its t ordered m (is-of service tei timer)
-      ∙ ap (λ xs. by_orders its t xs m) (timers-are-timely c events number ranged all_at within service tei what)
-      ∙ left-is service tei t c o q what m timer
+      ∙ ap (λ xs. by_orders its t xs m) (timers-are-timely c events number ranged all_at within service tei what) ∙ left-is service tei t c o q what m timer

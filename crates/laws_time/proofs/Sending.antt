@@ -1,6 +1,6 @@
 -- T200 runs on where a frame goes.
-use Rattle.laws_time.proofs.Vocabulary.{AreAtLines, Card, Config, Event, IsBy, IsInRange, IsSound, List, None, Option, Service, Some, T200, [], after_all-append, ap, arith, at, by_line, callers-run, config-now, frames_after_all as after_all, has_lines, has_tei, inl, inr, is_on, is_some, line_at, line_sound, link_after as after, link_of, link_runs as runs, next}
-use Rattle.laws_time.proofs.Vocabulary.{on-line-now, option_map, place_in, refl, sound-now, state_of, subst, sym, terms, timely-now, timers-run-so, true, true≢false, view_of, ℕ, ◌++◌, ◌<◌, ◌∙◌, ◌∷◌, ◌≡◌, ◌⊎◌}
+use Rattle.laws_time.proofs.Vocabulary.{AreAtLines, Card, Config, Event, IsBy, IsInRange, IsSound, List, Service, T200, [], after_all-append, ap, arith, at, by_line, callers-run, config-now, frames_after_all as after_all, has_lines, has_tei, inl, inr, is_on, is_some, line_at, line_sound, link_after as after, link_of, link_runs as runs, next, by-option}
+use Rattle.laws_time.proofs.Vocabulary.{on-line-now, option_map, place_in, sound-now, state_of, subst, sym, terms, timely-now, timers-run-so, true, true≢false, view_of, ℕ, ◌++◌, ◌<◌, ◌∙◌, ◌∷◌, ◌≡◌, ◌⊎◌}
 use Rattle.model_line.specs.Event as line_event
 use Rattle.model_line.specs.Line.{Line}
 use Rattle.model_line.specs.Machine as lines
@@ -14,11 +14,7 @@ use Rattle.laws_trace.proofs.OneLink.{event-goes, Goes}
 use Rattle.laws_trace.proofs.TimersOfEvent.{needed-is}
 
 has : (service : Service) (tei : ℕ) (l : Line) → is_some (state_of service tei l) ≡ true → has_tei tei l ≡ true
-has service tei l some = go (place_in l tei) refl
-  where
-    go : (o : Option ℕ) → place_in l tei ≡ o → has_tei tei l ≡ true
-    go None e = absurd (true≢false (sym some ∙ ap (λ o. is_some (option_map (Rattle.model_line.specs.Line.state_in l service) o)) e))
-    go (Some place) e = on-line l tei place e
+has service tei l some = by-option (place_in l tei) (λ e. absurd (true≢false (sym some ∙ ap (λ o. is_some (option_map (Rattle.model_line.specs.Line.state_in l service) o)) e))) (λ place e. on-line l tei place e)
 
 no-next : {A B : Type 0} (o p : stream.Event) → ((next ≡ line_event.hears o) × A) ⊎ ((next ≡ line_event.hears p) × B) → ⊥
 no-next o p h1z = grind arith
@@ -72,9 +68,7 @@ unfolding after_all
 sends-on c events number ranged all longer within service tei on on_after run =
     let more = events ++ at number next ∷ [] in
     let lines_are : line_at number (after_all (fresh c) more) ≡ line_at number (machine.after (at number next) (after_all (fresh c) events)) = ap (line_at number) (after_all-append (fresh c) events (at number next ∷ [])) in
-    t200-is c more number ranged longer within service tei
-    ∙ ap (λ l. runs T200 (link_of service tei l).running) lines_are
-    ∙ then-runs c events number ranged all within service tei
+    t200-is c more number ranged longer within service tei ∙ ap (λ l. runs T200 (link_of service tei l).running) lines_are ∙ then-runs c events number ranged all within service tei
     (has service tei (line_at number (after_all (fresh c) events)) (state-some c events number ranged all within service tei ∙ on))
     (has service tei (line_at number (machine.after (at number next) (after_all (fresh c) events))) (ap (λ l. is_some (state_of service tei l)) (sym lines_are) ∙ state-some c more number ranged longer within service tei ∙ on_after))
     (sym (t200-is c events number ranged all within service tei) ∙ run)

@@ -3,11 +3,11 @@ pub use Rattle.std.proofs.Common.{All, Bool, IsTrue, List, None, Ok, Option, Som
 pub use Rattle.std.proofs.Common.{◌/◌, ◌<◌, ◌==◌, ◌||◌, ◌∙◌, ◌∷◌, ◌≡◌, ◌≢◌, ◌≤◌, ◌⊎◌}
 pub use Rattle.std.proofs.Math.Nat.{add-mul, div-le_of_le-mul, div-le_self, div-lt_iff_lt-mul, lt-div-mul-add, mul-div-le, suc-mul}
 pub use Rattle.std.proofs.Math.Seq.{take-length}
-pub use Rattle.std.proofs.lemmas.Bool.{and_parts, cases_eq, cases_lt, false≢true, le-ltb, leb-true, ltb-false, ltb-true, or_parts, true≢false}
+pub use Rattle.std.proofs.lemmas.Bool.{and_parts, cases_eq, cases_lt, le-ltb, leb-true, ltb-false, ltb-true, or_parts, true≢false}
 pub use Rattle.std.proofs.lemmas.Bool.Decides.{nat_tests}
 pub use Rattle.std.proofs.lemmas.Grind.{flat_map-append}
 pub use Rattle.std.proofs.lemmas.List.{append_cancel_left, append_cancel_right, length-drop, length-map, length-replicate, length-take-le, map-append, nil_from_length, same_from_push, set-get_or, take-append-drop, take_all}
-pub use Rattle.std.proofs.lemmas.List.Elements.{All-append, All-cons, All-drop, All-from_recursion, All-head, All-nil, All-replicate, All-tail, All-take, All-weaker, recursion_from_All}
+pub use Rattle.std.proofs.lemmas.List.Elements.{All-append, All-cons, All-from_recursion, All-head, All-map, All-nil, All-replicate, All-tail, All-weaker, recursion_from_All}
 pub use Rattle.std.proofs.lemmas.List.Filters.{sum_by-filter_both}
 pub use Rattle.std.proofs.lemmas.List.Folds.{list_any-append}
 pub use Rattle.std.proofs.lemmas.List.Sums.{fold-append, sum_by-append, sum_by-cons}
@@ -36,9 +36,9 @@ pub use Rattle.lapd_frame.specs.Services.{same_service, sapi_of}
 pub use Rattle.lapd_frame.specs.declared.controls.Control.{Control}
 pub use Rattle.lapd_frame.specs.declared.controls.Control.TheVariants.{Disc, Dm, Information, ReceiveNotReady, ReceiveReady, Sabme, Ua}
 pub use Rattle.lapd_frame.specs.declared.notes.ErrorCode.{ErrorCode}
-pub use Rattle.lapd_frame.specs.declared.notes.ErrorCode.TheVariants.{F, H, I}
+pub use Rattle.lapd_frame.specs.declared.notes.ErrorCode.TheVariants.{F}
 pub use Rattle.lapd_frame.specs.declared.notes.Note.{Note}
-pub use Rattle.lapd_frame.specs.declared.notes.Note.TheVariants.{Error, ReleaseConfirm}
+pub use Rattle.lapd_frame.specs.declared.notes.Note.TheVariants.{Error}
 pub use Rattle.lapd_frame.specs.declared.refusals.Refusal.{Refusal}
 pub use Rattle.lapd_frame.specs.declared.refusals.Refusal.TheVariants.{BadTei, NoLink, PoolFull}
 pub use Rattle.lapd_frame.specs.declared.services.Service.{Service}
@@ -60,22 +60,17 @@ pub use Rattle.laws_link.proofs.Follows.{event-follows}
 pub use Rattle.laws_link.proofs.OfTwo.AnyOrder.{Direction, Informs, Lane, Notes, Steady, is-steady, lane-low, lane-order}
 pub use Rattle.laws_link.specs.States.{as_heard, by_request, is_faulty, is_overlong, moves, state_after}
 pub use Rattle.laws_link.specs.Waiting.{answers, answers_to, as_command, as_response, command_in, commands, is_time, put, receipt_as, room, to_disc, to_sabme}
-pub use Rattle.laws_link.specs.two.Needed.{HasItsTimer, needed_in}
+pub use Rattle.laws_link.specs.two.Needed.{HasItsTimer}
 pub use Rattle.laws_link.specs.two.Timely.{HasNo}
 pub use Rattle.laws_order.proofs.OfCircuit.AsFrames.{as_endpoint, asked-as, heard-as, if_meant, pulled-as}
 pub use Rattle.laws_order.proofs.OfCircuit.AtPort.{next_of_card, pull-between, pull-given, pull-put, pull-received}
-pub use Rattle.laws_order.proofs.OfCircuit.Comes.{AreFew, all-few, block, few-fewer, sender}
-pub use Rattle.laws_order.proofs.OfCircuit.OneWay.{Carries, OneHeard, framed, heard-beyond, none-heard, one-given, one-heard, one-put}
-pub use Rattle.laws_order.proofs.OfCircuit.Onward.{acts-append, many-add, many-append, many-mute, many-stay, meant-append}
-unfoldable pub use Rattle.laws_order.proofs.OfCircuit.Onward.{many}
-pub use Rattle.laws_order.proofs.OfCircuit.Projected.{Done, Fits, Follows, act_meant, all-done, as_wire, asked-way, doing_meant, heard-way, hearing_means, one-act, one-done, other-way, port-after}
-unfoldable pub use Rattle.laws_order.proofs.OfCircuit.Projected.{doings_meant}
+pub use Rattle.laws_order.proofs.OfCircuit.OneWay.{Carries, OneHeard, framed, heard-beyond, none-heard, one-heard, one-put}
+pub use Rattle.laws_order.proofs.OfCircuit.Projected.{Fits, asked-way, heard-way, port-after}
 pub use Rattle.laws_order.proofs.OfCircuit.Ran.{AsksOctets, Ran, config, few-left, gives-octets, goes-on, on-line, sound, sound-port, within-ports}
-pub use Rattle.laws_order.proofs.OfCircuit.Takings.{all-paid, all-talk, on_ways, takings, takings-append}
+pub use Rattle.laws_order.proofs.OfCircuit.Takings.{all-paid, on_ways, takings-append}
 pub use Rattle.laws_order.specs.circuit.Beats.{enough_beats, longest}
-pub use Rattle.laws_order.specs.circuit.Circuit.{Circuit, Endpoint as OctetEndpoint, answered, contents_in, port_of, told_by, with_first_of}
-unfoldable pub use Rattle.laws_order.specs.circuit.Circuit.{doing_all}
-pub use Rattle.laws_order.specs.circuit.Through.{IsTalkOf, assigned, octet_endpoint}
+pub use Rattle.laws_order.specs.circuit.Circuit.{Endpoint as OctetEndpoint, answered, port_of, told_by}
+pub use Rattle.laws_order.specs.circuit.Through.{octet_endpoint}
 pub use Rattle.laws_order.proofs.OfCircuit.Through.{or-none}
 pub use Rattle.laws_time.specs.ArrivalsAwaited.{NoAnswerIsAwaitedLonger}
 unfoldable pub use Rattle.laws_time.specs.ArrivalsAwaited.{StaysIn}
@@ -98,7 +93,7 @@ pub use Rattle.laws_time.specs.circuit.InCall.{ACallOutlastsNoise, IsShort, IsSh
 pub use Rattle.laws_time.specs.circuit.LongEnough.{AnswersComeInTime, IsClearAt, IsFit, IsFrame, IsOfLink, IsTalk, Line, RunsLong, answered_in, asked, begins, is_waiting}
 unfoldable pub use Rattle.laws_time.specs.circuit.LongEnough.{AreClear, pulling}
 pub use Rattle.laws_time.specs.circuit.WorkedInBeats.{far_clock, its_line, near_clock, network, one_granted, rested, runs_until, user}
-pub use Rattle.laws_time.proofs.Plain.{front-none, none-of-both, some-in}
+pub use Rattle.laws_time.proofs.Plain.{by-bool, by-either, by-option, front-none, none-of-both, some-in}
 pub use Rattle.laws_trace.proofs.LinkLed.{own-is}
 pub use Rattle.laws_trace.proofs.ObservedLaws.{holds, known-now, links-move-so, news-is-told-so, numbers-now, on-line-now, timers-run-so}
 pub use Rattle.laws_trace.proofs.TimersAreTimely.{callers-run, config-now, sound-now, timely-now}
@@ -110,7 +105,7 @@ pub use Rattle.laws_trace.specs.Observer.{Observed, View, anew, awaits, by_event
 pub use Rattle.laws_trace.specs.TimersAreTimely.{is_anew, is_order_of, is_timer_of, order_due, orders_due, renews, runs}
 pub use Rattle.laws_trace.specs.Trace.{IsFront, frame_in, is_own, is_up}
 pub use Rattle.laws_wire.proofs.Answered.{asks-way, takes-way}
-pub use Rattle.laws_wire.proofs.Awaited.{closed, link-is, long-there, may-there, open-here, runs-is, state-is}
+pub use Rattle.laws_wire.proofs.Awaited.{closed, link-is, long-there, may-there, open-here, state-is}
 pub use Rattle.laws_wire.proofs.BothPhases.{Goes, IsCalled}
 pub use Rattle.laws_wire.proofs.Calling.{awaiting, caller, end, sabme, sends-ua, takes-sabme, ua, with_ua_first, with_ua_waiting}
 pub use Rattle.laws_wire.proofs.Delivering.{cards-deliver, is-established, is-sound, kept-up}
@@ -133,22 +128,21 @@ pub use Rattle.laws_wire.proofs.UaTold.{lossy-calls-come-through, patient-goes}
 pub use Rattle.laws_wire.proofs.Up.{Talk, does, pair_of, turned-pair}
 pub use Rattle.laws_wire.specs.Answering.{Called, IsAsked as IsAskedOfLink, IsFullTalk, IsFullTalkOf, ToldSo, error_f, renewed, seeing, takes_sabme, uncalled, with_sabme}
 unfoldable pub use Rattle.laws_wire.specs.Answering.{StayPatient, seen}
-pub use Rattle.laws_wire.specs.Arriving.{far_asks, is_t200, near_asks, runs_t200}
-pub use Rattle.laws_wire.specs.Call.{AreOpposite, CanCall, IsBeginningOf, IsData, calling, confirmed, data_told, indicated}
+pub use Rattle.laws_wire.specs.Call.{AreOpposite, CanCall, IsBeginningOf, calling, confirmed, data_told, indicated}
 unfoldable pub use Rattle.laws_wire.specs.Call.{both_call}
 pub use Rattle.laws_wire.specs.Facing.{Delivers, IsToldSince as ToldSince, due_since, frames_at, is_busy, line_of, most_turns, owed, own_frames_at, own_link, parts_of, read_as, unsent_at}
 pub use Rattle.laws_wire.specs.Losing.{TellNoError, for_layer_3, is_error}
 pub use Rattle.laws_wire.specs.Timely.{IsLongEnough, IsTimelyOf, MayRepeat, awaits_in, bit_of, is_final, is_poll}
-pub use Rattle.laws_wire.specs.Wire.{Endpoint as FrameEndpoint, IsStill, Step as EndStep, StepAt, Wire, acting, at_far, at_near, doing, expires, frame_comes, frames_by, is_any, is_turn_of, loses, receives, requests, sends, tells_nothing, turned}
+pub use Rattle.laws_wire.specs.Wire.{Endpoint as FrameEndpoint, IsStill, Step as EndStep, StepAt, Wire, acting, at_far, at_near, doing, expires, frame_comes, frames_by, is_any, loses, receives, requests, sends, tells_nothing, turned}
 unfoldable pub use Rattle.laws_wire.specs.Wire.{doing_all as wire_doing_all, turns as wire_turns}
 pub use Rattle.model_bits.proofs.BitLemmas.{bits-append, length-bits}
 pub use Rattle.model_bits.proofs.Division.Unique.{length-check}
 pub use Rattle.model_bits.proofs.Items.{line_text-push}
 pub use Rattle.model_bits.proofs.RoundTripFrame.{frames_round_trip_lem, hears_items, some_text}
 pub use Rattle.model_bits.proofs.RoundTripPlaces.{after_flag, heard_until-onto, hears-append, reverse_aux-append, reverse_aux-onto}
-pub use Rattle.model_bits.specs.Bits.{bits, flag, number_of}
+pub use Rattle.model_bits.specs.Bits.{bits, flag}
 unfoldable pub use Rattle.model_bits.specs.Bits.{low_bits}
-pub use Rattle.model_bits.specs.Framer.{item_octets, runs_low}
+pub use Rattle.model_bits.specs.Framer.{item_octets}
 pub use Rattle.model_bits.specs.RoundTrip.{AreHeardWhole, IsHeardWhole, frames_of}
 pub use Rattle.model_bits.specs.Sent.{Item, frame, frame_text, idle, item_text, line_text}
 pub use Rattle.model_bits.specs.Stream.{Event as StreamEvent, ends_flag, frame as stream_frame, heard_at, heard_in, heard_until, room_for, since_flag}
@@ -168,12 +162,12 @@ pub use Rattle.model_card.specs.Room.{free as free_slots}
 pub use Rattle.model_card.specs.Run.{AreAtLines, IsAtLine, Moment}
 unfoldable pub use Rattle.model_card.specs.Run.{after_all as frames_after_all, moments}
 pub use Rattle.model_card.specs.Sound.{IsSound as IsSoundCard}
-pub use Rattle.model_card.specs.ports.Card.{OctetCard, answer_to, card_after, fresh as ports_fresh, port_at, said}
+pub use Rattle.model_card.specs.ports.Card.{OctetCard, answer_to, fresh as ports_fresh, port_at, said}
 unfoldable pub use Rattle.model_card.specs.ports.Card.{after as ports_after, answer, meant}
 pub use Rattle.model_card.specs.ports.Codec.{IsAnswered, SaysSo, frames_among, octet_pulled}
 pub use Rattle.model_card.specs.ports.Event.{Event as OctetEvent, at as octet_at}
 pub use Rattle.model_card.specs.ports.GoingOut.{GoOut, as_octets}
-pub use Rattle.model_card.specs.ports.Port.{Port, answer_of, frame_begun, fresh_port, gained, is_due, item_of, left_of, next_octet, orders_with, with_item, with_octet}
+pub use Rattle.model_card.specs.ports.Port.{Port, answer_of, fresh_port, gained, is_due, item_of, left_of, next_octet, with_item, with_octet}
 pub use Rattle.model_card.specs.ports.Pulls.{longest_text}
 unfoldable pub use Rattle.model_card.specs.ports.Run.{meant_all}
 pub use Rattle.model_card.specs.ports.Sound.{IsSoundPort}
@@ -212,7 +206,7 @@ pub use Rattle.model_link.specs.TwoEnds.{Endpoint as LinkEndpoint, frame_given, 
 pub use Rattle.model_link.specs.declared.frames.ControlFrame.{ControlFrame}
 pub use Rattle.model_link.specs.declared.rooms.Room.{Room}
 pub use Rattle.model_link.specs.declared.states.State.{State}
-pub use Rattle.model_link.specs.declared.states.State.TheVariants.{AwaitingEstablishment, AwaitingRelease, Established, TeiAssigned, TimerRecovery}
+pub use Rattle.model_link.specs.declared.states.State.TheVariants.{AwaitingEstablishment, Established, TeiAssigned, TimerRecovery}
 pub use Rattle.model_link.specs.declared.terms.Terms.{Terms}
 pub use Rattle.model_link.specs.declared.timers.LinkTimer.{LinkTimer}
 pub use Rattle.model_link.specs.declared.timers.LinkTimer.TheVariants.{T200, T203}

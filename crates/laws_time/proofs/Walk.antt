@@ -1,6 +1,6 @@
 -- A timed card as it goes on: when the timers of a link fall due.
-use Rattle.laws_time.proofs.Vocabulary.{All-append, All-cons, All-nil, AreAtLines, Bool, Clock, Config, Event, IsAtLine, IsInRange, Lengths, LinkTimer, List, None, Observed, Option, Service, Some, TimedCard, Timer, View, [], after_all-append, ap, arith, at, cond, duration, false, frames_after_all as after_all, is_anew, moment_of, not, orders_in, refl, runs, subst, sym, timer_of, true}
-use Rattle.laws_time.proofs.Vocabulary.{true≢false, view_behind, view_of, ℕ, ◌&&◌, ◌++◌, ◌+◌, ◌<◌, ◌||◌, ◌∙◌, ◌∷◌, ◌≡◌, ◌≤◌}
+use Rattle.laws_time.proofs.Vocabulary.{All-append, All-cons, All-nil, AreAtLines, Bool, Clock, Config, Event, IsAtLine, IsInRange, Lengths, LinkTimer, List, None, Observed, Service, Some, TimedCard, Timer, View, [], after_all-append, ap, arith, at, cond, duration, false, frames_after_all as after_all, is_anew, moment_of, not, orders_in, refl, runs, subst, sym, timer_of, true}
+use Rattle.laws_time.proofs.Vocabulary.{eq-eqb, filter, is_news, moment_at, news-is-told-so, news_in, notes_due, notes_of, of_frames, true≢false, view_behind, view_of, ℕ, ◌&&◌, ◌++◌, ◌+◌, ◌<◌, ◌||◌, ◌∙◌, ◌∷◌, ◌≡◌, ◌≤◌}
 use Rattle.model_line.specs.Event as line_event
 use Rattle.model_card.specs.Card.{fresh}
 use Rattle.model_card.specs.Machine.{after, answer}
@@ -36,11 +36,16 @@ module _ (c : Config) (lengths : Lengths) (late number : ℕ) (ranged : IsInRang
   unfolding after_all
   stands-then events t e s here = grind (arith, after, after_all-append, fresh, all-then, lengths-stay, orders_in, answer)
 
+  -- What is told as an event of the line comes.
+  pub own-news : (events : List Event) (t : TimedCard) → Stands events t → (what : line_event.Event)
+      → news_in of_frames service tei number (Some (at number what)) t.card ≡ notes_due c service tei (seen events) (view_behind c service tei number events what).link what (moment_at c events number what).answer
+  own-news events t s what =
+      ap (λ b. cond b (filter (is_news service tei) (notes_of (answer (at number what) t.card))) []) (eq-eqb number number refl)
+      ∙ ap (λ card. filter (is_news service tei) (notes_of (answer (at number what) card))) s.card
+      ∙ news-is-told-so c (events ++ at number what ∷ []) number ranged ((stands-then events t (at number what) s within).all) within service tei events what [] refl
+
   -- An event of the line.
   module _ (events : List Event) (t : TimedCard) (s : Stands events t) (what : line_event.Event) (timer : LinkTimer) where
-    abbrev o : Observed
-    o = seen events
-
     abbrev q : Observed
     q = (view_behind c service tei number events what).link
 
@@ -50,40 +55,34 @@ module _ (c : Config) (lengths : Lengths) (late number : ℕ) (ranged : IsInRang
     pub q-is : seen (events ++ at number what ∷ []) ≡ q
     q-is = ap (λ (v : View). v.link) (view-then c service tei number events (at number what))
 
-    moment-then : moment_of number (its timer) then_clock.running ≡ left c service tei timer o q what (t.clock.now + duration lengths (its timer)) (moment_of number (its timer) t.clock.running)
+    moment-then : moment_of number (its timer) then_clock.running ≡ left c service tei timer (seen events) q what (t.clock.now + duration lengths (its timer)) (moment_of number (its timer) t.clock.running)
     moment-then = grind (arith, moment-left)
 
     now-then : then_clock.now ≡ t.clock.now
     now-then = now-stays number t.clock (orders_in (answer (at number what) t.card))
 
     abbrev begins : Bool
-    begins = not (runs timer o) || is_anew c service tei timer o q what
+    begins = not (runs timer (seen events)) || is_anew c service tei timer (seen events) q what
 
-    by-begins : (P Q : ℕ → Type 0) → (runs timer o ≡ true → is_anew c service tei timer o q what ≡ false → IsDue timer t.clock P)
+    by-begins : (P Q : ℕ → Type 0) → (runs timer (seen events) ≡ true → is_anew c service tei timer (seen events) q what ≡ false → IsDue timer t.clock P)
         → (runs timer q ≡ true → (m : ℕ) → t.clock.now ≤ m + late → P m → Q m) → (begins ≡ true → runs timer q ≡ true → Q (t.clock.now + duration lengths (its timer)))
         → runs timer q ≡ true → (b : Bool) → begins ≡ b → IsDue timer then_clock Q
     by-begins P Q kept more anew run true is = grind (arith, duration, moment_of, moment-then, cond, runs, not, now-then)
-    by-begins P Q kept more anew run false is = go (runs timer o) refl (is_anew c service tei timer o q what) refl
+    by-begins P Q kept more anew run false is = go (runs timer (seen events)) refl (is_anew c service tei timer (seen events) q what) refl
       where
-        then_due : ℕ
-        then_due = t.clock.now + duration lengths (its timer)
-
-        mo : Option ℕ
-        mo = moment_of number (its timer) t.clock.running
-
-        go : (r : Bool) → runs timer o ≡ r → (a : Bool) → is_anew c service tei timer o q what ≡ a → IsDue timer then_clock Q
-        go false er a ea = absurd (true≢false (sym (ap (λ b. not b || is_anew c service tei timer o q what) er) ∙ is))
-        go true er true ea = absurd (true≢false (sym (ap (λ b. not b || is_anew c service tei timer o q what) er ∙ ea) ∙ is))
+        go : (r : Bool) → runs timer (seen events) ≡ r → (a : Bool) → is_anew c service tei timer (seen events) q what ≡ a → IsDue timer then_clock Q
+        go false er a ea = absurd (true≢false (sym (ap (λ b. not b || is_anew c service tei timer (seen events) q what) er) ∙ is))
+        go true er true ea = absurd (true≢false (sym (ap (λ b. not b || is_anew c service tei timer (seen events) q what) er ∙ ea) ∙ is))
         go true er false ea =
             let h = kept er ea in (
               h.0,
-              moment-then ∙ ap (λ b. cond (runs timer q && b) (Some then_due) (cond (runs timer o && not (runs timer q)) None mo)) is
-                  ∙ ap (λ r. cond (r && false) (Some then_due) (cond (runs timer o && not r) None mo)) run ∙ ap (λ r. cond (r && false) None mo) er ∙ h.1,
+              moment-then ∙ ap (λ b. cond (runs timer q && b) (Some (t.clock.now + duration lengths (its timer))) (cond (runs timer (seen events) && not (runs timer q)) None (moment_of number (its timer) t.clock.running))) is
+                  ∙ ap (λ r. cond (r && false) (Some (t.clock.now + duration lengths (its timer))) (cond (runs timer (seen events) && not r) None (moment_of number (its timer) t.clock.running))) run ∙ ap (λ r. cond (r && false) None (moment_of number (its timer) t.clock.running)) er ∙ h.1,
               subst (λ n. n ≤ h.0 + late) (sym now-then) h.2,
               more run h.0 h.2 h.3,
             )
 
-    pub step : (P Q : ℕ → Type 0) → (runs timer o ≡ true → is_anew c service tei timer o q what ≡ false → IsDue timer t.clock P)
+    pub step : (P Q : ℕ → Type 0) → (runs timer (seen events) ≡ true → is_anew c service tei timer (seen events) q what ≡ false → IsDue timer t.clock P)
         → (runs timer q ≡ true → (m : ℕ) → t.clock.now ≤ m + late → P m → Q m) → (begins ≡ true → runs timer q ≡ true → Q (t.clock.now + duration lengths (its timer)))
         → Holds timer (events ++ at number what ∷ []) then_clock Q
     step P Q kept more anew run = by-begins P Q kept more anew (ap (runs timer) (sym q-is) ∙ run) begins refl

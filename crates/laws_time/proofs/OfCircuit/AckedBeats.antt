@@ -1,6 +1,5 @@
 -- Beats of a call without noise, in which no timer falls due: so many beats later all that an end has sent is acknowledged.
-use Rattle.laws_time.proofs.Vocabulary.{All, AsksData, Beat, Begins, Clocked, Face, HasReceived, IsClean, IsDataOf, IsInRangeTerms as IsInRange, Line, Link, List, NoneFallsDue, OctetEndpoint as Endpoint, Wire, [], after, all-left, all-right, ap, arith, as_endpoint, beat, drop, faces, faces-back, fold-append, length, length-append, length-take-le, longest, own_link, subst, sym, take}
-use Rattle.laws_time.proofs.Vocabulary.{take-append-drop, terms, terms_in_range, ℕ, ◌*◌, ◌++◌, ◌+◌, ◌<◌, ◌∙◌, ◌≡◌, ◌≤◌}
+use Rattle.laws_time.proofs.Vocabulary.{All, AsksData, Beat, Begins, Clocked, HasReceived, IsClean, IsDataOf, Line, Link, List, NoneFallsDue, OctetEndpoint as Endpoint, Wire, [], after, all-left, all-right, ap, arith, as_endpoint, beat, drop, fold-append, length, length-append, length-take-le, longest, own_link, subst, sym, take, take-append-drop, ℕ, ◌*◌, ◌++◌, ◌+◌, ◌<◌, ◌∙◌, ◌≡◌, ◌≤◌}
 use Rattle.laws_wire.specs.Call.{IsTalk}
 use Rattle.laws_wire.specs.Wire as wire
 use Rattle.laws_time.proofs.OfCircuit.AckedCall.{sum_all, far_sends, near_sends}
@@ -17,21 +16,8 @@ pub split : (n : ℕ) (bs : List Beat) → n ≤ length bs → (xs : List Beat) 
 split n bs few = (take n bs, drop n bs, sym (take-append-drop n bs), length-take-le n bs few)
 
 module _ (l : Line) (fit : Begins l) where
-  abbrev face : Face l.near l.far
-  face = faces l.near l.far fit.call.opposite
-
-  abbrev back : Face l.far l.near
-  back = faces-back l.near l.far fit.call.opposite
-
-  abbrev rt : IsInRange (terms l.near l.service l.tei)
-  rt = terms_in_range l.near fit.call.near.0 l.service l.tei fit.call.terminal
-
-  abbrev ru : IsInRange (terms l.far l.service l.tei)
-  ru = terms_in_range l.far fit.call.far.0 l.service l.tei fit.call.terminal
-
   abbrev pub On_wire : Wire → ℕ → Type 0
-  On_wire f weight = on.On l.service l.tei fit.call.terminal l.near l.far (faces l.near l.far fit.call.opposite) (faces-back l.near l.far fit.call.opposite)
-      (terms_in_range l.near fit.call.near.0 l.service l.tei fit.call.terminal) (terms_in_range l.far fit.call.far.0 l.service l.tei fit.call.terminal) f weight
+  On_wire f weight = on.On l fit f weight
 
   abbrev pub link_at : Endpoint → Link
   link_at s = own_link l.service l.tei (as_endpoint [] s)
@@ -52,7 +38,7 @@ module _ (l : Line) (fit : Begins l) where
 
   unfoldable pub goes : (w u : Clocked) (h : Now w) → LedFrom w h u → Now u
   goes w u h x =
-      let y = on.all-on l.service l.tei fit.call.terminal l.near l.far face back rt ru x.es (talks w u h x) (wire_of w.near.at w.far.at h.there h.back) h.weight h.on_wire in
+      let y = on.all-on l fit x.es (talks w u h x) (wire_of w.near.at w.far.at h.there h.back) h.weight h.on_wire in
       record { there = x.there; back = x.back; joined = x.joined; weight = y.0; on_wire = subst (λ f. On_wire f y.0) x.leads y.1 }
 
   -- Beats in which data alone is asked for, and no timer falls due.
@@ -79,15 +65,11 @@ module _ (l : Line) (fit : Begins l) where
     pub now : Now w
 
   unfoldable pub stands-then : (bs : List Beat) (w : Clocked) → Calm bs w → Stands w → Stands (after l.rate bs w)
-  stands-then bs w calm h = record {
-    since = since-all l fit.call 0 bs (data-talks l bs calm.data_alone) calm.are_clean w h.since;
-    now = goes w (after l.rate bs w) h.now (led-calm bs w h.now calm);
-  }
+  stands-then bs w calm h = record { since = since-all l fit.call 0 bs (data-talks l bs calm.data_alone) calm.are_clean w h.since; now = goes w (after l.rate bs w) h.now (led-calm bs w h.now calm) }
 
   -- What is put comes, and something is put.
   pub come-calm : (bs : List Beat) (w : Clocked) → Calm bs w → Stands w → longest l.near.n201 + l.way ≤ length bs → HasReceived l w.near (after l.rate bs w).far × HasReceived l w.far (after l.rate bs w).near
-  come-calm bs w calm h enough =
-      let s = short-always l fit.call w h.since.both in come-from l fit.call l.near.n201 bs (data-talks l bs calm.data_alone) calm.are_clean w h.since enough s.0 s.1
+  come-calm bs w calm h enough = let s = short-always l fit.call w h.since.both in come-from l fit.call l.near.n201 bs (data-talks l bs calm.data_alone) calm.are_clean w h.since enough s.0 s.1
 
   pub puts-calm : (bs : List Beat) (w : Clocked) → Calm bs w → Stands w → longest l.near.n201 ≤ length bs → (put_at w.near.at < put_at (after l.rate bs w).near.at) × (put_at w.far.at < put_at (after l.rate bs w).far.at)
   puts-calm bs w calm h enough =
@@ -125,10 +107,9 @@ module _ (l : Line) (fit : Begins l) where
     acked-near first asked last =
         let put = x2.far_put in
         subst (λ (f : Wire). (own_link l.service l.tei f0.near).s ≤ (own_link l.service l.tei f.near).a) same3
-        (on.near-acked l.service l.tei fit.call.terminal l.near l.far face back rt ru x1.es x2.es x3.es (talks w w1 h x1) (talks w1 w2 h1 x2) (talks w2 w3 h2 x3) f0 h.weight h.on_wire
+        (on.near-acked l fit x1.es x2.es x3.es (talks w w1 h x1) (talks w1 w2 h1 x2) (talks w2 w3 h2 x3) f0 h.weight h.on_wire
         (heard-all n201 l.way w.near.at w.far.at w1.far.at w.near.at.way h.there (sum_all far_takes x1.es f0) h.joined.goes first x1.far_heard)
-        (subst (λ f. 1 ≤ sum_all far_sends x2.es f) (sym x1.leads) (omega (arith, put, asked)))
-        (subst (λ (f : Wire). length f.far.way ≤ sum_all near_takes x3.es f) (sym same2)
+        (subst (λ f. 1 ≤ sum_all far_sends x2.es f) (sym x1.leads) (omega (arith, put, asked))) (subst (λ (f : Wire). length f.far.way ≤ sum_all near_takes x3.es f) (sym same2)
         (heard-all n201 l.way w2.far.at w2.near.at w3.near.at w2.far.at.way x2.back (sum_all near_takes x3.es (wire_of w2.near.at w2.far.at x2.there x2.back)) x2.joined.comes last x3.near_heard)))
 
     acked-far : HasReceived l w.far w1.near → put_at w1.near.at < put_at w2.near.at → HasReceived l w2.near w3.far → (link_at w.far.at).s ≤ (link_at w3.far.at).a
@@ -136,18 +117,16 @@ module _ (l : Line) (fit : Begins l) where
     acked-far first asked last =
         let put = x2.near_put in
         subst (λ (f : Wire). (own_link l.service l.tei f0.far).s ≤ (own_link l.service l.tei f.far).a) same3
-        (on.far-acked l.service l.tei fit.call.terminal l.near l.far face back rt ru x1.es x2.es x3.es (talks w w1 h x1) (talks w1 w2 h1 x2) (talks w2 w3 h2 x3) f0 h.weight h.on_wire
+        (on.far-acked l fit x1.es x2.es x3.es (talks w w1 h x1) (talks w1 w2 h1 x2) (talks w2 w3 h2 x3) f0 h.weight h.on_wire
         (heard-all n201 l.way w.far.at w.near.at w1.near.at w.far.at.way h.back (sum_all near_takes x1.es f0) h.joined.comes first x1.near_heard)
-        (subst (λ f. 1 ≤ sum_all near_sends x2.es f) (sym x1.leads) (omega (arith, put, asked)))
-        (subst (λ (f : Wire). length f.near.way ≤ sum_all far_takes x3.es f) (sym same2)
+        (subst (λ f. 1 ≤ sum_all near_sends x2.es f) (sym x1.leads) (omega (arith, put, asked))) (subst (λ (f : Wire). length f.near.way ≤ sum_all far_takes x3.es f) (sym same2)
         (heard-all n201 l.way w2.near.at w2.far.at w3.far.at w2.near.at.way x2.there (sum_all far_takes x3.es (wire_of w2.near.at w2.far.at x2.there x2.back)) x2.joined.goes last x3.far_heard)))
 
   acked-in : (xs ys zs : List Beat) (w : Clocked) → Stands w → Calm xs w → Calm ys (after l.rate xs w) → Calm zs (after l.rate ys (after l.rate xs w)) → longest l.near.n201 + l.way ≤ length xs → longest l.near.n201 ≤ length ys
       → longest l.near.n201 + l.way ≤ length zs → Acked w (after l.rate zs (after l.rate ys (after l.rate xs w)))
   unfolding stands-then
   acked-in xs ys zs w h one two three a b c =
-      let w1 = after l.rate xs w in let w2 = after l.rate ys w1 in let w3 = after l.rate zs w2 in
-      let h1 = stands-then xs w one h in let h2 = stands-then ys w1 two h1 in
+      let w1 = after l.rate xs w in let w2 = after l.rate ys w1 in let w3 = after l.rate zs w2 in let h1 = stands-then xs w one h in let h2 = stands-then ys w1 two h1 in
       let x1 = led-calm xs w h.now one in let x2 = led-calm ys w1 h1.now two in let x3 = led-calm zs w2 h2.now three in
       let first = come-calm xs w one h a in let puts = puts-calm ys w1 two h1 b in let last = come-calm zs w2 three h2 c in
       record { near = acked-near w w1 w2 w3 h.now x1 x2 x3 first.0 puts.1 last.1; far = acked-far w w1 w2 w3 h.now x1 x2 x3 first.1 puts.0 last.0 }
@@ -155,13 +134,8 @@ module _ (l : Line) (fit : Begins l) where
   -- That is 3 L + 2 D beats later.
   pub acked-then : (bs : List Beat) (w : Clocked) → Calm bs w → Stands w → 3 * longest l.near.n201 + 2 * l.way ≤ length bs → Acked w (after l.rate bs w)
   acked-then bs w calm h enough =
-      let L = longest l.near.n201 in
-      let x = split (L + l.way) bs (omega (arith, enough)) in let more = ap length x.2 ∙ length-append x.0 x.1 in let first = x.3 in
-      let y = split L x.1 (omega (arith, enough, more, first)) in let rest = ap length y.2 ∙ length-append y.0 y.1 in let second = y.3 in
-      let is = x.2 ∙ ap (λ ys. x.0 ++ ys) y.2 in
-      let p = calm-parts x.0 (y.0 ++ y.1) w (subst (λ bs. Calm bs w) is calm) in
-      let w1 = after l.rate x.0 w in
-      let q = calm-parts y.0 y.1 w1 p.1 in
-      subst (λ bs. Acked w (after l.rate bs w)) (sym is)
-      (subst (Acked w) (sym (fold-append (beat l.rate) w x.0 (y.0 ++ y.1) ∙ fold-append (beat l.rate) w1 y.0 y.1))
+      let L = longest l.near.n201 in let x = split (L + l.way) bs (omega (arith, enough)) in let more = ap length x.2 ∙ length-append x.0 x.1 in let first = x.3 in
+      let y = split L x.1 (omega (arith, enough, more, first)) in let rest = ap length y.2 ∙ length-append y.0 y.1 in let second = y.3 in let is = x.2 ∙ ap (λ ys. x.0 ++ ys) y.2 in
+      let p = calm-parts x.0 (y.0 ++ y.1) w (subst (λ bs. Calm bs w) is calm) in let w1 = after l.rate x.0 w in let q = calm-parts y.0 y.1 w1 p.1 in
+      subst (λ bs. Acked w (after l.rate bs w)) (sym is) (subst (Acked w) (sym (fold-append (beat l.rate) w x.0 (y.0 ++ y.1) ∙ fold-append (beat l.rate) w1 y.0 y.1))
       (acked-in x.0 y.0 y.1 w h p.0 q.0 q.1 (omega (arith, first)) (omega (arith, second)) (omega (arith, enough, more, first, rest, second))))

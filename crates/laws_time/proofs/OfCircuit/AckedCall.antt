@@ -1,9 +1,29 @@
--- A call on a wire: once SABME and UA are received both ends are up, and once so much more is received all that was sent is acknowledged.
-use Rattle.laws_time.proofs.Vocabulary.{All, All-cons, All-head, All-nil, All-tail, Config, EndStep as Step, Face, Link, LinkEndpoint, List, Past, Service, StepAt, Talk, Wire, [], ap, arith, at_far, at_near, does, doing, false, inl, inr, length, map, own_link, read_as, receives, refl, requests, sends, subst, turned, wire_doing_all as doing_all, ℕ, ◌++◌, ◌+◌, ◌-◌, ◌∙◌, ◌∷◌, ◌≡◌, ◌≤◌}
+-- Two wires that differ in what was granted and told alone: whatever is done on both leaves them so.
+use Rattle.laws_time.proofs.Vocabulary.{All-map, All-weaker, All, All-head, All-tail, Config, EndStep as Step, Face, FrameEndpoint as Endpoint, LineTold, Link, LinkEndpoint, List, Past, Service, StepAt, Talk, Wire, [], ap, arith, at_far, at_near, does, doing, false, inl, inr, length, map, own_link, read_as, receives, refl, requests, sends, subst, turned, wire_doing_all as doing_all, ℕ, ◌++◌, ◌+◌}
+use Rattle.laws_time.proofs.Vocabulary.{◌-◌, ◌∙◌, ◌∷◌, ◌≡◌, ◌≤◌}
 use Rattle.laws_wire.specs.Call.{IsTalk}
-use Rattle.laws_time.proofs.OfCircuit.AckedLinks.{infos, infos-append}
-use Rattle.laws_time.proofs.OfCircuit.AckedLogs.{Log, log_of, relogged, doing-logged, takes-logged}
-use Rattle.laws_time.proofs.OfCircuit.AckedWire.{parts_in, near_takes, far_takes, Counted, Flows, flows, Heeds, Acks, acks-on, counted-up, window-near, far-clears, acks-all, heeds-step}
+use Rattle.laws_time.proofs.OfCircuit.AckedWire.{near_takes, infos, infos-append, parts_in, far_takes, Counted, Flows, flows, Heeds, Acks, acks-on, counted-up, window-near, far-clears, acks-all, heeds-step}
+
+pub record Log : Type 0 where
+  pub granted : List (List ℕ)
+  pub told : List LineTold
+
+abbrev pub logged : Log → Endpoint → Endpoint
+logged x s = record s { granted = x.granted; told = x.told }
+
+abbrev pub log_of : Endpoint → Log
+log_of s = record { granted = s.granted; told = s.told }
+
+abbrev pub relogged : Log → Log → Wire → Wire
+relogged x y w = record { near = logged x w.near; far = logged y w.far }
+
+pub doing-logged : (k : StepAt) (x y : Log) (w : Wire) → doing k (relogged x y w) ≡ relogged (log_of (doing k (relogged x y w)).near) (log_of (doing k (relogged x y w)).far) (doing k w)
+doing-logged h x y w = grind arith
+
+pub takes-logged : (k : StepAt) (x y : Log) (w : Wire) → near_takes k (relogged x y w) ≡ near_takes k w
+takes-logged h x y w = grind arith
+
+-- ---- a call on a wire: once SABME and UA are received both ends are up, and once so much more is received all that was sent is acknowledged
 
 -- What each step keeps, a list of them keeps.
 pub steps-keep : (P : Wire → Type 0) (Q : StepAt → Type 0) → ((k : StepAt) (w : Wire) → Q k → P w → P (doing k w)) → (es : List StepAt) → All Q es → (w : Wire) → P w → P (doing_all es w)
@@ -51,10 +71,7 @@ sends-turned k w = grind arith
 pub sum-turned : (f g : StepAt → Wire → ℕ) → ((k : StepAt) (w : Wire) → f (turn k) (turned w) ≡ g k w) → (es : List StepAt) (w : Wire) → sum_all f (map turn es) (turned w) ≡ sum_all g es w
 unfolding sum_all
 sum-turned f g same [] w = refl
-sum-turned f g same (k ∷ ks) w =
-    let one = same k w in
-    let rest = ap (sum_all f (map turn ks)) (doing-turned k w) ∙ sum-turned f g same ks (doing k w) in
-    omega (arith, one, rest)
+sum-turned f g same (k ∷ ks) w = let one = same k w in let rest = ap (sum_all f (map turn ks)) (doing-turned k w) ∙ sum-turned f g same ks (doing k w) in omega (arith, one, rest)
 
 pub record Moves (before now : Link) : Type 0 where
   pub low : before.a ≤ now.a
@@ -69,14 +86,12 @@ module _ (service : Service) (tei : ℕ) where
   talk-turned h is = grind arith
 
   pub talks-turned : (es : List StepAt) → All Talks es → All Talks (map turn es)
-  talks-turned [] all = All-nil Talks
-  talks-turned (k ∷ ks) all = All-cons Talks (turn k) (map turn ks) (talk-turned k (All-head Talks k ks all)) (talks-turned ks (All-tail Talks k ks all))
+  talks-turned es all = All-map Talks turn es (All-weaker Talks (λ k. Talks (turn k)) talk-turned es all)
 
   parts-append : (c : Config) (xs ys : List (List ℕ)) → infos (parts_in service tei c (xs ++ ys)) ≡ infos (parts_in service tei c xs) + infos (parts_in service tei c ys)
   parts-append c [] ys = omega arith
   parts-append c (x ∷ xs) ys =
-      let rest = parts-append c xs ys in
-      let one = infos-append (read_as c x) (parts_in service tei c (xs ++ ys)) in
+      let rest = parts-append c xs ys in let one = infos-append (read_as c x) (parts_in service tei c (xs ++ ys)) in
       let two = infos-append (read_as c x) (parts_in service tei c xs) in omega (arith, rest, one, two)
 
   pub grows : (c : Config) (t r r' s s' : ℕ) (way way' : List (List ℕ)) → Flows service tei c t r way r' way' → r + infos (parts_in service tei c way) ≡ s → r' + infos (parts_in service tei c way') ≡ s' → (r ≤ r') × (s ≤ s')
@@ -90,8 +105,7 @@ module _ (service : Service) (tei : ℕ) where
 
     pub up-step : (k : StepAt) → Talks k → (w : Wire) → Up w → Up (doing k w)
     up-step k is w (x, y, n, m, h) =
-        let v = relogged x y w in
-        let z = does service tei c d p q face back first second k is v n m h in
+        let v = relogged x y w in let z = does service tei c d p q face back first second k is v n m h in
         (log_of (doing k v).near, log_of (doing k v).far, z.n', z.m', subst (λ u. Talk service tei c d p q first second u z.n' z.m') (doing-logged k x y w) z.talk)
 
     pub up-all : (es : List StepAt) → All Talks es → (w : Wire) → Up w → Up (doing_all es w)
@@ -132,8 +146,7 @@ module _ (service : Service) (tei : ℕ) where
     -- V(A) goes on by no more than a window, and V(S) stays or goes on.
     pub moves : (k : StepAt) → Talks k → (w : Wire) → Up w → Moves (own_link service tei w.near) (own_link service tei (doing k w).near)
     moves k is w h =
-        let more = (grown k is w h).1 in let few = window w h in
-        go few more (heeds k is w h)
+        let more = (grown k is w h).1 in let few = window w h in go few more (heeds k is w h)
       where
         go : S w ≤ A w + 127 → S w ≤ S (doing k w) → Heeds service tei d (near_takes k w) (A w) (S w) w.far.way (A (doing k w)) (doing k w).far.way → Moves (own_link service tei w.near) (own_link service tei (doing k w).near)
         go few more (inl (none, same, rest)) = record { low = omega (arith, same); high = omega (arith, same); sent = more }
@@ -145,9 +158,7 @@ module _ (service : Service) (tei : ℕ) where
     unfolding doing_all sum_all
     acks-all-on few hi [] all w h j high acks = subst (λ j. Acks service tei d few hi j (A w) w.far.way) (let e : j ≡ j - 0 = omega arith in e) acks
     acks-all-on few hi (k ∷ ks) all w h j high acks =
-        let is = All-head Talks k ks all in
-        let w' = doing k w in
-        let more = (grown k is w h).1 in
+        let is = All-head Talks k ks all in let w' = doing k w in let more = (grown k is w h).1 in
         let one = acks-on service tei d few hi (near_takes k w) j (A w) (S w) w.far.way (A w') w'.far.way (window w h) high (heeds k is w h) acks in
         let t = near_takes k w in let rest = sum_all near_takes ks w' in
         subst (λ j. Acks service tei d few hi j (A (doing_all ks w')) (doing_all ks w').far.way) (let e : j - t - rest ≡ j - (t + rest) = omega arith in e)
@@ -162,18 +173,12 @@ module _ (service : Service) (tei : ℕ) where
     -- once the far end was asked for a frame, what it received is acknowledged by what is in transit
     owed-now : (few : ℕ) (w : Wire) → Up w → few ≤ R w → Owed few (doing (at_far sends) w)
     owed-now few w h enough =
-        let w' = doing (at_far sends) w in
-        let up = up-step (at_far sends) tt w h in
-        let more = (grown (at_far sends) tt w h).0 in
-        let all = counts w' up in
+        let w' = doing (at_far sends) w in let up = up-step (at_far sends) tt w h in let more = (grown (at_far sends) tt w h).0 in let all = counts w' up in
         record { j = length w'.far.way; hi = R w'; high = omega (arith, all); acks = covers w' up few (clears w h) (omega (arith, enough, more)) }
 
     sent-more : (es : List StepAt) → All Talks es → (w : Wire) → Up w → S w ≤ S (doing_all es w)
-    unfolding doing_all
-    sent-more [] all w h = omega arith
-    sent-more (k ∷ ks) all w h =
-        let is = All-head Talks k ks all in
-        let one = (grown k is w h).1 in let rest = sent-more ks (All-tail Talks k ks all) (doing k w) (up-step k is w h) in omega (arith, one, rest)
+    sent-more es all w h =
+        (steps-keep (λ v. Up v × (S w ≤ S v)) Talks (λ k v is x. let one = (grown k is v x.0).1 in let low = x.1 in (up-step k is v x.0, omega (arith, one, low))) es all w (h, omega arith)).1
 
     owed-on : (few : ℕ) (es : List StepAt) → All Talks es → (w : Wire) → Up w → Owed few w → Owed few (doing_all es w)
     owed-on few es all w h x = record {
@@ -186,9 +191,7 @@ module _ (service : Service) (tei : ℕ) where
     later : (few : ℕ) (k : StepAt) (ks : List StepAt) → All Talks (k ∷ ks) → (w : Wire) → Up w → few ≤ R w → 1 ≤ far_sends k w + sum_all far_sends ks (doing k w) → far_sends k w ≡ 0
         → (All Talks ks → Up (doing k w) → few ≤ R (doing k w) → 1 ≤ sum_all far_sends ks (doing k w) → Owed few (doing_all ks (doing k w))) → Owed few (doing_all ks (doing k w))
     later few k ks all w h enough some none rest =
-        let is = All-head Talks k ks all in
-        let more = (grown k is w h).0 in
-        rest (All-tail Talks k ks all) (up-step k is w h) (omega (arith, enough, more)) (omega (arith, some, none))
+        let is = All-head Talks k ks all in let more = (grown k is w h).0 in rest (All-tail Talks k ks all) (up-step k is w h) (omega (arith, enough, more)) (omega (arith, some, none))
 
     owed-then : (few : ℕ) (es : List StepAt) → All Talks es → (w : Wire) → Up w → few ≤ R w → 1 ≤ sum_all far_sends es w → Owed few (doing_all es w)
     unfolding doing_all sum_all
@@ -209,7 +212,5 @@ module _ (service : Service) (tei : ℕ) where
 
         go : Owed few (doing_all es w) → few ≤ A (doing_all fs (doing_all es w))
         go x =
-            let last = acks-all-on few x.hi fs more u (up-all es talk w h) x.j x.high x.acks in
-            let long = x.acks.0 in
-            let none : x.j - sum_all near_takes fs u ≡ 0 = omega (arith, long, all) in
+            let last = acks-all-on few x.hi fs more u (up-all es talk w h) x.j x.high x.acks in let long = x.acks.0 in let none : x.j - sum_all near_takes fs u ≡ 0 = omega (arith, long, all) in
             (subst (λ j. Acks service tei d few x.hi j (A (doing_all fs u)) (doing_all fs u).far.way) none last).1

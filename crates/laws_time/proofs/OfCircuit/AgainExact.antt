@@ -1,13 +1,47 @@
--- After noise an end hears again what the other gave: with each octet just that.
-use Rattle.laws_time.proofs.Vocabulary.{All, All-cons, All-head, All-nil, All-tail, Bool, Item, List, Option, Port, Some, [], after_flag, ap, append_assoc, append_cancel_left, arith, bits, bits-append, cases_lt, flag, flat_map, flat_map-append, frame, frame_text, gained, heard_in, heard_until, heard_until-onto, heard_with, idle, inl, inr, item_octets, item_text, left_of, length, length-append}
-use Rattle.laws_time.proofs.Vocabulary.{length-bits, longest, longest_text, option_to_list, refl, replicate, reverse_aux, reverse_aux-append, reverse_aux-onto, room_for, suc, sym, zero, ℕ, ◌*◌, ◌++◌, ◌+◌, ◌<◌, ◌∙◌, ◌∷◌, ◌≡◌, ◌≤◌, ◌⊎◌}
+-- After noise an end hears again just what the other gave. Few bits are left at a port, if the frames that were put there are short.
+use Rattle.laws_time.proofs.Vocabulary.{All-weaker, All-replicate, All, All-cons, All-head, All-nil, All-tail, Bool, IsCut, Item, List, Option, Port, Some, [], after_flag, all-right, ap, append-nil, append_assoc, append_cancel_left, arith, bits, bits-append, cases_lt, flag, flat_map, flat_map-append, frame, frame_text, frames_among, gained, heard_in, heard_until, heard_until-onto, heard_with}
+use Rattle.laws_time.proofs.Vocabulary.{idle, inl, inr, item_octets}
+use Rattle.laws_time.proofs.Vocabulary.{item_text, left_of, length, length-append, length-bits, length-check, length-drop, line_text, longest, longest_text, option_to_list, refl, replicate, reverse_aux, reverse_aux-append, reverse_aux-onto, room_for, subst, suc, sym, zero, ℕ, ◌*◌, ◌++◌, ◌+◌, ◌<◌, ◌∙◌, ◌∷◌, ◌≡◌, ◌≤◌, ◌⊎◌}
 use Rattle.model_bits.specs.Stream as stream
 use Rattle.model_bits.proofs.RoundTripPlaces.{hears}
-use Rattle.laws_time.proofs.OfCircuit.AnsweredBits.{longer-begins}
-use Rattle.laws_time.proofs.OfCircuit.AnsweredClear.{hears-same, bits-flags, gained-there}
-use Rattle.laws_time.proofs.OfCircuit.AnsweredPlace.{Comes, all_sent}
-use Rattle.laws_time.proofs.OfCircuit.InBeatsShort.{text-longest}
-use Rattle.laws_time.proofs.OfCircuit.Sender.{Fine}
+use Rattle.laws_time.proofs.OfCircuit.Words.{Fine, stuffed-longest}
+use Rattle.laws_time.proofs.OfCircuit.AnsweredBits.{longer-begins, Comes, all_sent}
+use Rattle.laws_time.proofs.OfCircuit.ArrivWay.{hears-same, bits-flags, gained-there}
+
+-- ---- so few bits are left of frames that are so short
+
+pub text-longest : (m : ℕ) (item : Item) → item_octets item ≤ m + 4 → length (item_text item) ≤ longest_text m
+text-longest m item few = grind (arith, stuffed-longest, length-append, length-bits, length-check)
+
+line-longer : (front : List Item) (last : Item) → length (line_text (front ++ last ∷ [])) ≡ length (line_text front) + length (item_text last)
+line-longer [] last = let same = ap length (append-nil (item_text last)) in omega (arith, same)
+line-longer (item ∷ front) last =
+    let rest = line-longer front last in
+    let one = length-append (item_text item) (flat_map item_text (front ++ last ∷ [])) in let two = length-append (item_text item) (flat_map item_text front) in omega (arith, rest, one, two)
+
+pub all-small : (m : ℕ) (items : List Item) → All (λ (octets : List ℕ). length octets ≤ m + 4) (frames_among items) → All (λ item. item_octets item ≤ m + 4) items
+all-small m [] h = All-nil (λ item. item_octets item ≤ m + 4)
+all-small m (idle ∷ items) h = All-cons (λ item. item_octets item ≤ m + 4) idle items (omega arith) (all-small m items h)
+all-small m (frame octets ∷ items) h =
+    All-cons (λ item. item_octets item ≤ m + 4) (frame octets) items (All-head (λ (octets : List ℕ). length octets ≤ m + 4) octets (frames_among items) h)
+    (all-small m items (All-tail (λ (octets : List ℕ). length octets ≤ m + 4) octets (frames_among items) h))
+
+pub left-few : (m : ℕ) (p : Port) → IsCut p.items p.given → All (λ item. item_octets item ≤ m + 4) p.items → length (left_of p) ≤ longest_text m
+left-few m p (inl none) small = grind (arith, length, line_text, length-drop, bits)
+left-few m p (inr h) small =
+    let all = ap (λ items. length (line_text items)) h.items_are ∙ line-longer h.front h.last in let its = subst (All (λ item. item_octets item ≤ m + 4)) h.items_are small in
+    let last = All-head (λ item. item_octets item ≤ m + 4) h.last [] (all-right (λ item. item_octets item ≤ m + 4) h.front (h.last ∷ []) its) in let short = text-longest m h.last last in
+    let before = h.before in let left = length-drop (length (bits p.given)) (line_text p.items) in omega (arith, all, left, before, short)
+
+-- And so are the frames among them.
+pub frames-small : (m : ℕ) (items : List Item) → All (λ item. item_octets item ≤ m + 4) items → All (λ (octets : List ℕ). length octets ≤ m + 4) (frames_among items)
+frames-small m [] h = All-nil (λ (octets : List ℕ). length octets ≤ m + 4)
+frames-small m (idle ∷ items) h = frames-small m items (All-tail (λ item. item_octets item ≤ m + 4) idle items h)
+frames-small m (frame octets ∷ items) h =
+    All-cons (λ (octets : List ℕ). length octets ≤ m + 4) octets (frames_among items) (All-head (λ item. item_octets item ≤ m + 4) (frame octets) items h)
+    (frames-small m items (All-tail (λ item. item_octets item ≤ m + 4) (frame octets) items h))
+
+-- ---- after noise an end hears again what the other gave: with each octet just that
 
 -- ---- what came before a flag does not matter
 
@@ -61,16 +95,13 @@ flag-here low most items x near late = record { front = x; rest = flat_map item_
 -- After one item more.
 module _ (low most : ℕ) (i : Item) (items : List Item) (x : List Bool) (few : All (λ item. length (item_text item) ≤ most) (i ∷ items)) (near : length x < low + most)
     (enough : low ≤ length x + length (flat_map item_text (i ∷ items))) where
-  abbrev next : List Bool
-  next = x ++ (flag ++ (its-text i).0)
-
   abbrev more : List Bool
   more = flat_map item_text items
 
   all : x ++ (flag ++ (item_text i ++ flat_map item_text items)) ≡ (x ++ (flag ++ (its-text i).0)) ++ (flag ++ flat_map item_text items)
   all = grind (arith, flag, its-text, append_assoc)
 
-  flag-on : (length x < low) ⊎ (low ≤ length x) → (length next < low + most → low ≤ length next + length more → FlagIn low most next items) → FlagIn low most x (i ∷ items)
+  flag-on : (length x < low) ⊎ (low ≤ length x) → (length (x ++ (flag ++ (its-text i).0)) < low + most → low ≤ length (x ++ (flag ++ (its-text i).0)) + length more → FlagIn low most (x ++ (flag ++ (its-text i).0)) items) → FlagIn low most x (i ∷ items)
   flag-on h rest = grind (arith, flag-here, length, item_text, length-append, flag, its-text, all)
 
 flag-after : (low most : ℕ) (items : List Item) (x : List Bool) → All (λ item. length (item_text item) ≤ most) items → length x < low + most → low ≤ length x + length (flat_map item_text items)
@@ -83,22 +114,13 @@ flag-after low most (i ∷ items) x few near enough =
 -- The flags of the beginning are items, too.
 flags-pass : (n : ℕ) (b : List Bool) → flat_map item_text (replicate n idle) ++ (flag ++ b) ≡ flag ++ (flat_map item_text (replicate n idle) ++ b)
 flags-pass zero b = refl
-flags-pass (suc n) b =
-    let F = flat_map item_text (replicate n idle) in
-    append_assoc flag F (flag ++ b) ∙ ap (λ b. flag ++ b) (flags-pass n b ∙ sym (append_assoc flag F b))
+flags-pass (suc n) b = let F = flat_map item_text (replicate n idle) in append_assoc flag F (flag ++ b) ∙ ap (λ b. flag ++ b) (flags-pass n b ∙ sym (append_assoc flag F b))
 
 all-flags : (most n : ℕ) → 8 ≤ most → All (λ item. length (item_text item) ≤ most) (replicate n idle)
-all-flags most zero long = All-nil (λ item. length (item_text item) ≤ most)
-all-flags most (suc n) long = All-cons (λ item. length (item_text item) ≤ most) idle (replicate n idle) long (all-flags most n long)
-
-both-parts : (most : ℕ) (xs ys : List Item) → All (λ item. length (item_text item) ≤ most) xs → All (λ item. length (item_text item) ≤ most) ys → All (λ item. length (item_text item) ≤ most) (xs ++ ys)
-both-parts most xs ys = Rattle.std.proofs.lemmas.List.Elements.All-append (λ item. length (item_text item) ≤ most) xs ys
+all-flags most n long = All-replicate (λ item. length (item_text item) ≤ most) n idle long
 
 pub all-texts : (m : ℕ) (items : List Item) → All (λ item. item_octets item ≤ m + 4) items → All (λ item. length (item_text item) ≤ longest_text m) items
-all-texts m [] small = All-nil (λ item. length (item_text item) ≤ longest_text m)
-all-texts m (i ∷ items) small =
-    All-cons (λ item. length (item_text item) ≤ longest_text m) i items (text-longest m i (All-head (λ item. item_octets item ≤ m + 4) i items small))
-    (all-texts m items (All-tail (λ item. item_octets item ≤ m + 4) i items small))
+all-texts m = All-weaker (λ item. item_octets item ≤ m + 4) (λ item. length (item_text item) ≤ longest_text m) (text-longest m)
 
 -- ---- so what is heard with an octet is what the other gave
 
@@ -128,13 +150,12 @@ module _ (n201 m way k : ℕ) (p : Port) (value : ℕ) (more : List ℕ) (q : Po
     all-long =
         let a = ap length (sym came-is ∙ text-is) in let b = length-append (bits c.before) (bits c.as_sent ++ tail) in let d = length-append (bits c.as_sent) tail in
         let e = length-append (bits (value ∷ more)) (left_of p) in let f = length-bits c.before in let g = length-bits c.as_sent in let i = length-bits (value ∷ more) in
-        let j = length-append flag (flat_map item_text all_items) in
-        omega (arith, a, b, d, e, f, g, i, j)
+        let j = length-append flag (flat_map item_text all_items) in omega (arith, a, b, d, e, f, g, i, j)
 
     found : FlagAfter (8 * k) (longest_text m) ([] ++ (flag ++ flat_map item_text all_items))
     found =
         let all = all-long in
-        flag-after (8 * k) (longest_text m) all_items [] (both-parts (longest_text m) (replicate way idle) p.items (all-flags (longest_text m) way long-enough) (all-texts m p.items small))
+        flag-after (8 * k) (longest_text m) all_items [] ((Rattle.std.proofs.lemmas.List.Elements.All-append (λ item. length (item_text item) ≤ (longest_text m)) (replicate way idle) p.items) (all-flags (longest_text m) way long-enough) (all-texts m p.items small))
         (let long = long-enough in omega (arith, long)) (omega (arith, all, old))
 
     u : (u : List Bool) × (found.front ≡ bits c.before ++ u) × (bits c.as_sent ++ tail ≡ u ++ (flag ++ found.rest))

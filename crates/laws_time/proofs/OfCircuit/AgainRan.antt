@@ -4,13 +4,11 @@ use Rattle.laws_time.proofs.Vocabulary.{frames_among, given_in, goes-on, gone, h
 use Rattle.model_line.specs.Event as line
 use Rattle.model_card.specs.ports.Port as port
 use Rattle.laws_order.specs.circuit.Circuit as circuit
-use Rattle.laws_time.proofs.OfCircuit.AnsweredBeats.{Sent, Came, Behind, pull-sends, first-of, comes-then, behind-then}
-use Rattle.laws_time.proofs.OfCircuit.AnsweredPlace.{all_sent}
+use Rattle.laws_time.proofs.OfCircuit.AnsweredBeat.{Sent, Came, Behind, pull-sends, first-of, comes-then, behind-then}
+use Rattle.laws_time.proofs.OfCircuit.AnsweredBits.{all_sent}
 use Rattle.laws_time.proofs.OfCircuit.ArrivWay.{pulled-goes}
-use Rattle.laws_time.proofs.OfCircuit.Began.{ran-begun, port-is, way-is as begun-way}
+use Rattle.laws_time.proofs.OfCircuit.Words.{Fine, comes-keep, fold-keeps, port-is, ran-begun, way-is as begun-way}
 use Rattle.laws_time.proofs.OfCircuit.Led.{ran-way}
-use Rattle.laws_time.proofs.OfCircuit.Sender.{Fine}
-use Rattle.laws_time.proofs.OfCircuit.Keeping.{comes-keep}
 
 -- ---- requests and expiries leave the port
 
@@ -38,20 +36,13 @@ module _ (service : Service) (tei : ℕ) (c : Config) (ranged : IsInRange c) whe
     pub port : port_of u ≡ port_of s
     pub way : u.way ≡ s.way
 
-  silent-none : (s : OctetEndpoint) → Ran c s → Silent s s
-  silent-none s ran = record { ran = ran; port = refl; way = refl }
-
   silent-one : (e : port.Event) → IsSilent e → AsksOctets e → (s t : OctetEndpoint) → Silent s t → Silent s (circuit.happens e t)
-  silent-one e is octets s t h = record {
-    ran = goes-on c t e octets h.ran;
-    port = silent-port e is t (within-ports c ranged t h.ran) ∙ h.port;
-    way = silent-way e is t ∙ h.way;
-  }
+  silent-one e is octets s t h = record { ran = goes-on c t e octets h.ran; port = silent-port e is t (within-ports c ranged t h.ran) ∙ h.port; way = silent-way e is t ∙ h.way }
 
   pub silent-comes : (moment : ℕ) (rs : List Request) → All (IsOfLink service tei) rs → (a : TimedEndpoint) → Ran c a.at → Silent a.at (comes_to moment rs a).at
   silent-comes moment rs all a ran =
       comes-keep (λ u. Silent a.at u.at) (IsOfLink service tei) (λ r u is. silent-one (port.request r) tt (of-octets service tei r is) a.at u.at) (λ x u is. silent-one (port.expiry x.timer) tt tt a.at u.at)
-      moment rs all a (silent-none a.at ran)
+      moment rs all a ((record { ran = ran; port = refl; way = refl }))
 
 -- ---- what so many beats make of a port
 
@@ -92,9 +83,7 @@ octets-pulled : (c : Config) (ranged : IsInRange c) (s : OctetEndpoint) → Ran 
     → All AreOctets (frames_among (port_of (circuit.happens port.pull s)).items)
 unfolding answer meant
 octets-pulled c ranged s ran all =
-    let p = port_of s in
-    let there = frames_among p.items in
-    let carries : Carries c.n201 p p.given [] there = record { given = refl; are = refl; octets = all } in
+    let p = port_of s in let there = frames_among p.items in let carries : Carries c.n201 p p.given [] there = record { given = refl; are = refl; octets = all } in
     subst (λ (q : Port). All AreOctets (frames_among q.items)) (sym (port-after s port.pull (within-ports c ranged s ran)))
     (pulled-goes c ranged s ran there c.n201 0 p.given [] carries (is_due p)).octets
 
@@ -106,9 +95,6 @@ pull-items c ranged s ran =
 -- What a beat makes of an end: before it, after what is asked and falls due, after the pull, and after the octet that comes.
 module _ (c : Config) (ranged : IsInRange c) (service : Service) (tei way n : ℕ) (s a u other : TimedEndpoint) (noise : Option ℕ) (h : EndAt c way n s.at) (q : Silent service tei c ranged s.at a.at)
     (comes : Came (happens port.pull a) u other noise) where
-  abbrev got : ℕ
-  got = unwrap_or noise comes.value
-
   pub its-sent : Sent s.at (circuit.happens port.pull a.at)
   its-sent = pull-sends s.at a.at q.port q.way (within-ports c ranged a.at q.ran)
 
@@ -128,13 +114,12 @@ module _ (c : Config) (ranged : IsInRange c) (service : Service) (tei way n : �
 
   pub end-then : EndAt c way (n + 1) u.at
   end-then =
-      let y = circuit.happens (port.octet got) (happens port.pull a).at in
-      let x = its-sent in
+      let y = circuit.happens (port.octet (unwrap_or noise comes.value)) (happens port.pull a).at in let x = its-sent in
       record {
-        ran = subst (λ (u : TimedEndpoint). Ran c u.at) (sym comes.is) (ran-way c y (drop 1 y.way) (goes-on c (happens port.pull a).at (port.octet got) tt (goes-on c a.at port.pull tt q.ran)));
+        ran = subst (λ (u : TimedEndpoint). Ran c u.at) (sym comes.is) (ran-way c y (drop 1 y.way) (goes-on c (happens port.pull a).at (port.octet (unwrap_or noise comes.value)) tt (goes-on c a.at port.pull tt q.ran)));
         octets = subst (λ (p : Port). All AreOctets (frames_among p.items)) (sym comes.port) its-octets;
         given = ap (λ (p : Port). length p.given) comes.port ∙ ap length x.given ∙ length-append (port_of s.at).given (x.value ∷ []) ∙ ap (λ k. k + 1) h.given;
-        received = ap (λ (p : Port). length p.received) comes.port ∙ length-append (port_of (happens port.pull a).at).received (got ∷ []) ∙ ap (λ (r : List ℕ). length r + 1) x.received ∙ ap (λ k. k + 1) h.received;
+        received = ap (λ (p : Port). length p.received) comes.port ∙ length-append (port_of (happens port.pull a).at).received ((unwrap_or noise comes.value) ∷ []) ∙ ap (λ (r : List ℕ). length r + 1) x.received ∙ ap (λ k. k + 1) h.received;
         long =
             let all = ap length (comes.way ∙ ap (drop 1) way-is) in let whole = ap length first.2 in let more = length-append s.at.way (x.value ∷ []) in let long = h.long in
             omega (arith, all, whole, more, long);
@@ -142,10 +127,7 @@ module _ (c : Config) (ranged : IsInRange c) (service : Service) (tei way n : �
       }
 
   pub grown-then : Grown 1 (port_of s.at) (port_of u.at)
-  grown-then =
-      let x = its-sent in
-      let i = pull-items c ranged a.at q.ran in
-      grind arith
+  grown-then = let x = its-sent in let i = pull-items c ranged a.at q.ran in grind arith
 
 -- ---- both ends
 
@@ -171,17 +153,10 @@ module _ (l : Line) (can : CanCall l.near l.near_line l.far l.far_line l.tei) wh
 
   pub beaten : (w : Clocked) (b : Beat) → IsTalk l b → Both w → Beaten w b
   beaten w b talk h =
-      let moment = w.beats / l.rate in
-      let a = comes_to moment b.near_asks w.near in
-      let z = comes_to moment b.far_asks w.far in
-      let v = gone l.rate b w in
-      let u = beat l.rate w b in
+      let moment = w.beats / l.rate in let a = comes_to moment b.near_asks w.near in let z = comes_to moment b.far_asks w.far in let v = gone l.rate b w in let u = beat l.rate w b in
       let p = silent-comes l.service l.tei l.near can.near.0 moment b.near_asks talk.0 w.near h.near.ran in
-      let q = silent-comes l.service l.tei l.far can.far.0 moment b.far_asks talk.1 w.far h.far.ran in
-      let n = pull-sends w.near.at a.at p.port p.way (within-ports l.near can.near.0 a.at p.ran) in
-      let f = pull-sends w.far.at z.at q.port q.way (within-ports l.far can.far.0 z.at q.ran) in
-      let x = first-of w.near.at.way n.value in
-      let y = first-of w.far.at.way f.value in
+      let q = silent-comes l.service l.tei l.far can.far.0 moment b.far_asks talk.1 w.far h.far.ran in let n = pull-sends w.near.at a.at p.port p.way (within-ports l.near can.near.0 a.at p.ran) in
+      let f = pull-sends w.far.at z.at q.port q.way (within-ports l.far can.far.0 z.at q.ran) in let x = first-of w.near.at.way n.value in let y = first-of w.far.at.way f.value in
       let near = comes-then v.near v.far b.near_noise y.0 y.1 (f.way ∙ y.2) (within-ports l.near can.near.0 v.near.at (goes-on l.near a.at port.pull tt p.ran)) in
       let far = comes-then v.far v.near b.far_noise x.0 x.1 (n.way ∙ x.2) (within-ports l.far can.far.0 v.far.at (goes-on l.far z.at port.pull tt q.ran)) in
       record {
@@ -200,8 +175,7 @@ module _ (l : Line) (can : CanCall l.near l.near_line l.far l.far_line l.tei) wh
       }
 
   pub both-all : (bs : List Beat) → All (IsTalk l) bs → (w : Clocked) → Both w → Both (after l.rate bs w)
-  both-all [] talk w h = h
-  both-all (b ∷ bs) talk w h = both-all bs (All-tail (IsTalk l) b bs talk) (beat l.rate w b) (beaten w b (All-head (IsTalk l) b bs talk) h).both
+  both-all = fold-keeps (beat l.rate) (IsTalk l) Both (λ b w t h. (beaten w b t h).both)
 
   pub record GrownBoth (n : ℕ) (w u : Clocked) : Type 0 where
     pub near : Grown n (port_of w.near.at) (port_of u.near.at)
@@ -210,19 +184,13 @@ module _ (l : Line) (can : CanCall l.near l.near_line l.far l.far_line l.tei) wh
   pub grown-all : (bs : List Beat) → All (IsTalk l) bs → (w : Clocked) → Both w → GrownBoth (length bs) w (after l.rate bs w)
   grown-all [] talk w h = record { near = grown-none (port_of w.near.at); far = grown-none (port_of w.far.at) }
   grown-all (b ∷ bs) talk w h =
-      let one = beaten w b (All-head (IsTalk l) b bs talk) h in
-      let v = beat l.rate w b in
-      let u = after l.rate bs v in
-      let rest = grown-all bs (All-tail (IsTalk l) b bs talk) v one.both in
-      let n = length bs in
-      let more : 1 + n ≡ suc n = omega arith in
-      grind (arith, port_of, grown-both)
+      let one = beaten w b (All-head (IsTalk l) b bs talk) h in let v = beat l.rate w b in let u = after l.rate bs v in let rest = grown-all bs (All-tail (IsTalk l) b bs talk) v one.both in
+      let n = length bs in let more : 1 + n ≡ suc n = omega arith in grind (arith, port_of, grown-both)
 
   -- As it begins.
   begins-at : (c : Config) (ranged : IsInRange c) (number : ℕ) (within : number < c.lines) (lengths : Lengths) → EndAt c l.way 0 (endpoint c number lengths l.way l.tei).at
   begins-at c ranged number within lengths =
-      let fresh = port-is c ranged number l.tei l.way within in
-      let way = begun-way c ranged number l.tei l.way within in
+      let fresh = port-is c ranged number l.tei l.way within in let way = begun-way c ranged number l.tei l.way within in
       record {
         ran = ran-begun c ranged number l.tei l.way within;
         octets = subst (λ (p : Port). All AreOctets (frames_among p.items)) (sym fresh) (All-nil AreOctets);

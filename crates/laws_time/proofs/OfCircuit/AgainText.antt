@@ -3,8 +3,7 @@ use Rattle.laws_time.proofs.Vocabulary.{All, All-head, All-tail, AreHeardWhole, 
 use Rattle.laws_time.proofs.Vocabulary.{length, length-append, length-bits, line_text, longest, longest_text, map, refl, replicate, reverse_aux, reverse_aux-append, room_for, sent, subst, sym, ℕ, ◌*◌, ◌++◌, ◌+◌, ◌∙◌, ◌∷◌, ◌≡◌, ◌≤◌}
 use Rattle.model_bits.specs.Stream as stream
 use Rattle.model_bits.proofs.RoundTripPlaces.{hears}
-use Rattle.laws_time.proofs.OfCircuit.AnsweredBits.{longer-begins}
-use Rattle.laws_time.proofs.OfCircuit.AnsweredPlace.{Comes, all_sent, ends-flag, flags-long}
+use Rattle.laws_time.proofs.OfCircuit.AnsweredBits.{longer-begins, Comes, all_sent, ends-flag, flags-long}
 use Rattle.laws_time.proofs.OfCircuit.Sender.{Fine}
 
 -- ---- items as they go out
@@ -110,14 +109,10 @@ module _ (n201 way k m : ℕ) (v w u : Port) (transit received : List ℕ) (q : 
   heard-all : heard_in n201 q.received ≡ heard_until (room_for n201) (after_flag past) ++ hears (room_for n201) (after_flag past) (N ++ part.0)
   heard-all = grind (arith, heard_until, room_for, reverse_aux, came, reverse_aux-append, bits, x, flag, part, heard_until-onto, after_flag)
 
-  its : AreHeardWhole n201 new
-  its = whole-right n201 v.items new (subst (AreHeardWhole n201) items (whole-left n201 w.items later (subst (AreHeardWhole n201) items_u whole)))
-
   -- What had been received before goes before the flag.
   front : (front : List Bool) × (bits c.noisy ++ (x.0 ++ flag) ≡ bits received ++ front) × (bits more ≡ front ++ (N ++ part.0))
   front =
-      let a = x-long in let b = v-long in let l = length-append (bits c.noisy) (x.0 ++ flag) in let f = length-append x.0 flag in
-      let n = length-bits c.noisy in let r = length-bits received in
+      let a = x-long in let b = v-long in let l = length-append (bits c.noisy) (x.0 ++ flag) in let f = length-append x.0 flag in let n = length-bits c.noisy in let r = length-bits received in
       longer-begins (bits received) (bits more) (bits c.noisy ++ (x.0 ++ flag)) (N ++ part.0)
       (sym (bits-append received more) ∙ ap bits (sym goes_on) ∙ came ∙ sym (append_assoc (bits c.noisy ++ x.0) flag (N ++ part.0)) ∙ ap (λ b. b ++ (N ++ part.0)) (append_assoc (bits c.noisy) x.0 flag))
       (omega (arith, a, b, l, f, n, r, had, noisy_is))
@@ -125,21 +120,15 @@ module _ (n201 way k m : ℕ) (v w u : Port) (transit received : List ℕ) (q : 
   place-is : after_flag past ≡ reverse_aux front.0 (reverse_aux (bits received) [])
   place-is = grind (arith, reverse_aux-append)
 
-  heard-before : heard_until (room_for n201) (after_flag past) ≡ heard_in n201 received ++ hears (room_for n201) (reverse_aux (bits received) []) front.0
-  heard-before = ap (heard_until (room_for n201)) place-is ∙ heard_until-onto (room_for n201) front.0 (reverse_aux (bits received) [])
-
   -- So they are heard, in order, and nothing between.
   pub heard-since : (first rest : List stream.Event) × (heard_in n201 q.received ≡ heard_in n201 received ++ (first ++ (framed (drop (length (frames_among v.items)) (frames_among w.items)) ++ rest)))
   heard-since =
-      let room = room_for n201 in
-      let H = heard_in n201 received in
-      let A = hears room (reverse_aux (bits received) []) front.0 in
-      let B = hears room (reverse_aux N (after_flag past)) part.0 in
+      let room = room_for n201 in let H = heard_in n201 received in let A = hears room (reverse_aux (bits received) []) front.0 in let B = hears room (reverse_aux N (after_flag past)) part.0 in
       let put : framed (frames_among new) ≡ framed (drop (length (frames_among v.items)) (frames_among w.items)) =
       sym (ap framed (ap (λ is. drop (length (frames_among v.items)) (frames_among is)) items ∙ put-later v.items new)) in (
         A,
         B,
-        heard-all ∙ ap (λ l. l ++ hears room (after_flag past) (N ++ part.0)) heard-before
-            ∙ ap (λ l. (H ++ A) ++ l) (hears-append room N part.0 (after_flag past) ∙ ap (λ l. l ++ B) (items-heard n201 past new its ∙ put))
+        heard-all ∙ ap (λ l. l ++ hears room (after_flag past) (N ++ part.0)) (ap (heard_until (room_for n201)) place-is ∙ heard_until-onto (room_for n201) front.0 (reverse_aux (bits received) []))
+            ∙ ap (λ l. (H ++ A) ++ l) (hears-append room N part.0 (after_flag past) ∙ ap (λ l. l ++ B) (items-heard n201 past new (whole-right n201 v.items new (subst (AreHeardWhole n201) items (whole-left n201 w.items later (subst (AreHeardWhole n201) items_u whole)))) ∙ put))
             ∙ append_assoc H A (framed (drop (length (frames_among v.items)) (frames_among w.items)) ++ B),
       )

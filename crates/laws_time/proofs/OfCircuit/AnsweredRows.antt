@@ -1,7 +1,6 @@
 -- Rows of a link: what is put as it comes to a state that awaits an answer, how that is answered, and which state the answer leaves.
-use Rattle.laws_time.proofs.Vocabulary.{AwaitingEstablishment, Bool, Control, ControlFrame, Disc, Dm, Link, LinkEvent as Event, LinkTimer, List, Parts, ReceiveNotReady, ReceiveReady, Received, Sabme, State, Terms, Ua, [], answers, answers_to, ap, arith, as_command, as_heard, as_response, by_request, command_in, commands}
-use Rattle.laws_time.proofs.Vocabulary.{cond, drop, event-follows, expired, false, inl, inr, is_faulty, is_multiple_frame, is_overlong, length, link_after as after, offer, overlong, put, receipt_as, received, refl, requested, room, state_after, state_number, subst, suc, sym, take, to_disc, to_sabme, told, true, true≢false, zero, ℕ, ◌&&◌, ◌++◌, ◌∙◌}
-use Rattle.laws_time.proofs.Vocabulary.{◌∷◌, ◌≡◌, ◌≤◌, ◌⊎◌}
+use Rattle.laws_time.proofs.Vocabulary.{AwaitingEstablishment, Bool, Control, ControlFrame, Disc, Dm, Link, LinkEvent as Event, LinkTimer, List, Parts, ReceiveNotReady, ReceiveReady, Received, Sabme, State, Terms, Ua, [], answers, answers_to, ap, arith, as_command, as_heard, as_response, by_request, command_in, commands, cond, drop, event-follows, expired, false, inl, inr, is_faulty}
+use Rattle.laws_time.proofs.Vocabulary.{is_multiple_frame, is_overlong, length, link_after as after, offer, overlong, put, receipt_as, received, refl, requested, room, state_after, state_number, subst, suc, sym, take, to_disc, to_sabme, told, true, true≢false, zero, ℕ, ◌&&◌, ◌++◌, ◌∙◌, ◌∷◌, ◌≡◌, ◌≤◌, ◌⊎◌}
 use Rattle.lapd_frame.specs.declared.readings.Reading.{Reading}
 use Rattle.model_link.specs.Events.{Request, frame}
 use Rattle.laws_link.specs.States.{by_frame, by_expiry}
@@ -96,8 +95,7 @@ module _ (t : Terms) where
     received-stays r l is = grind arith
 
     heard-stays : (f : Parts) (l : Link) → state_number (after t (received (frame f)) l).state ≡ n → state_number l.state ≡ n
-    heard-stays f l is =
-        received-stays (cond (is_overlong t f.control f.info) overlong (frame f)) l (ap state_number (sym (leads (received (frame f)) l)) ∙ is)
+    heard-stays f l is = received-stays (cond (is_overlong t f.control f.info) overlong (frame f)) l (ap state_number (sym (leads (received (frame f)) l)) ∙ is)
 
   -- An enquiry that is heard in state 7 or 8 is answered.
   as-enquiry : (command : Bool) (control : Control) (info : List ℕ) (l : Link) → enquires command control ≡ true
@@ -106,9 +104,7 @@ module _ (t : Terms) where
 
   answer-put : (f : Parts) (l : Link) → enquires f.address.command f.control ≡ true → is_multiple_frame l.state ≡ true → Puts replies (received (frame f)) l
   answer-put f l is up =
-      let x = as-enquiry f.address.command f.control f.info l is in
-      let to = (after t (received (frame f)) l).state in
-      let heard = as_heard t (received (frame f)) in
+      let x = as-enquiry f.address.command f.control f.info l is in let to = (after t (received (frame f)) l).state in let heard = as_heard t (received (frame f)) in
       let answered : answers (as_heard t (received (frame f))) l ≡ as_response (receipt_as l.own_busy l.r true) =
       ap (λ b. answers (received (cond b overlong (frame f))) l) x.0 ∙ x.1 ∙ ap (λ b. cond b (as_response (receipt_as l.own_busy l.r true)) []) up in (
         [],

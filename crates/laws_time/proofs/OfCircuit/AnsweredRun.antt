@@ -1,30 +1,21 @@
 -- A beat without noise, after an end came to a state in which it waits for an answer: its command is on its way, or the answer is.
-use Rattle.laws_time.proofs.Vocabulary.{Beat, Clocked, IsClean, IsClearAt, IsFit, IsTalk, Line, Link, LinkEvent, None, OctetEndpoint, Option, Parts, Port, Some, TimedEndpoint, ap, arith, asked, beat, cases_eq, comes_to, gained, gone, happens, heard_side, inl, inr, is_multiple_frame, length, option_map_or, own_side, port_of, refl, same_Some, sides-turned, state_at, state_number, subst, sym}
-use Rattle.laws_time.proofs.Vocabulary.{terms, true, unwrap_or, without_first_octet, ℕ, ◌+◌, ◌/◌, ◌∙◌, ◌∷◌, ◌≡◌, ◌≤◌, ◌⊎◌}
+use Rattle.laws_time.proofs.Vocabulary.{Beat, Clocked, IsClean, IsClearAt, IsTalk, Line, Link, LinkEvent, None, OctetEndpoint, Option, Parts, Port, Some, TimedEndpoint, ap, arith, asked, beat, cases_eq, comes_to, gained, gone, happens, heard_side, inl, inr, is_multiple_frame, length, option_map_or, own_side, port_of, refl, same_Some, sides-turned, state_at, state_number, subst, sym, Begins}
+use Rattle.laws_time.proofs.Vocabulary.{terms, true, unwrap_or, without_first_octet, ℕ, ◌+◌, ◌/◌, ◌∙◌, ◌∷◌, ◌≡◌, ◌≤◌, ◌⊎◌, by-either}
 use Rattle.model_link.specs.Events as link
 use Rattle.model_link.specs.Machine as links
 use Rattle.model_card.specs.ports.Port as port
 use Rattle.laws_order.specs.circuit.Circuit as circuit
-use Rattle.laws_time.proofs.OfCircuit.Acts.{Goes}
-use Rattle.laws_time.proofs.OfCircuit.AnsweredBeat.{DueHere, from-here, to-here, due-kept, asks-moved, asks-kept, still-kept}
-use Rattle.laws_time.proofs.OfCircuit.AnsweredBeats.{given-long, way-long}
-use Rattle.laws_time.proofs.OfCircuit.AnsweredDue.{Due, IsNow, due-heard, due-soon}
-use Rattle.laws_time.proofs.OfCircuit.AnsweredEnds.{lost, lost-more, DueAt, due-moved, due-pull, text-low}
-use Rattle.laws_time.proofs.OfCircuit.AnsweredHeard.{Hears, plain, answer-heard, command-heard, hears-moved}
-use Rattle.laws_time.proofs.OfCircuit.AnsweredPlace.{Comes, one-among, heard-here}
+use Rattle.laws_time.proofs.OfCircuit.Words.{Ends, Goes, IsOwn, Moved, Pair, Pulled, at_time, far-comes, far-high, far-low, fine, half, near-comes, near-high, near-low, pair-then, pulls, ring, soon, state-here}
+use Rattle.laws_time.proofs.OfCircuit.AnsweredBeat.{DueHere, from-here, to-here, due-kept, asks-moved, asks-kept, still-kept, given-long, way-long, Hears, plain, answer-heard, command-heard, hears-moved}
+use Rattle.laws_time.proofs.OfCircuit.AnsweredEnds.{Due, IsNow, due-heard, due-soon, lost, lost-more, DueAt, due-moved, due-pull, text-low, IsKept, Kept, comes-kept}
+use Rattle.laws_time.proofs.OfCircuit.AnsweredBits.{one-among, heard-here}
 use Rattle.laws_time.proofs.OfCircuit.AnsweredRows.{Exchange, up-is, offer-stays}
-use Rattle.laws_time.proofs.OfCircuit.AnsweredWalk.{IsKept, Kept, comes-kept}
-use Rattle.laws_time.proofs.OfCircuit.LongEnough.{soon, near-low, near-high, far-low, far-high, pair-then, Pair, far-comes, near-comes}
-use Rattle.laws_time.proofs.OfCircuit.Open.{ring, half}
-use Rattle.laws_time.proofs.OfCircuit.Standing.{Ends, IsOwn, Moved, fine, Pulled, pulls}
-use Rattle.laws_time.proofs.OfCircuit.Under.{state-here}
 use Rattle.laws_time.specs.circuit.LongEnough.{is_of}
 use Rattle.laws_time.proofs.OfCircuit.AgainRan.{Beaten, beaten}
 use Rattle.laws_time.proofs.OfCircuit.AgainLaw.{Since, gone-back, gone-there, many-of, since-one}
-use Rattle.laws_time.proofs.OfCircuit.Ends.{at_time}
 
 -- An end as it comes to the moment of a beat, and as it is pulled.
-module _ (l : Line) (fit : IsFit l) (w : Clocked) (p : Pair l fit w) (b : Beat) (talk : IsTalk l b) where
+module _ (l : Line) (fit : Begins l) (w : Clocked) (p : Pair l fit w) (b : Beat) (talk : IsTalk l b) where
   pub near-come : Goes l.near l.service l.tei 0 fit.call.near.0 l.lengths l.rate p.S p.M (at_time (w.beats / l.rate) w.near) (comes_to (w.beats / l.rate) b.near_asks w.near)
   near-come = near-comes l fit w p b talk (length (asked (w.beats / l.rate) b.near_asks w.near).clock.running)
 
@@ -38,13 +29,13 @@ module _ (l : Line) (fit : IsFit l) (w : Clocked) (p : Pair l fit w) (b : Beat) 
   far-pulls = pulls l.far l.service l.tei 0 fit.call.far.0 (comes_to (w.beats / l.rate) b.far_asks w.far).at far-come.ok.but.ends
 
 -- From a beat on there is no noise, and so many frames were lost by then.
-pub record Ready (l : Line) (fit : IsFit l) (clean base other_base : ℕ) (w : Clocked) : Type 0 where
+pub record Ready (l : Line) (fit : Begins l) (clean base other_base : ℕ) (w : Clocked) : Type 0 where
   pub pair : Pair l fit w
   pub near_low : base ≤ lost w.near.at
   pub far_low : other_base ≤ lost w.far.at
   pub since : Since l fit.call clean w
 
-module _ (l : Line) (fit : IsFit l) (n : ℕ) (x : Exchange n) (start : ℕ) where
+module _ (l : Line) (fit : Begins l) (n : ℕ) (x : Exchange n) (start : ℕ) where
   -- By these octets the command is given, and the answer.
   abbrev pub asked_by : ℕ
   asked_by = start + x.late + half l.near l.service l.tei 0 fit.call.near.0
@@ -78,9 +69,6 @@ module _ (l : Line) (fit : IsFit l) (n : ℕ) (x : Exchange n) (start : ℕ) whe
     abbrev opposite : own_side l.far ≡ heard_side l.near
     opposite = fit.call.opposite.0
 
-    abbrev size : l.near.n201 ≡ l.far.n201
-    size = fit.call.opposite.1
-
     abbrev pub p : Pair l fit w
     p = y.pair
 
@@ -103,26 +91,23 @@ module _ (l : Line) (fit : IsFit l) (n : ℕ) (x : Exchange n) (start : ℕ) whe
     abbrev pub near_then : TimedEndpoint
     near_then = happens (port.octet z.near.value) v.near
 
-    abbrev far_then : TimedEndpoint
-    far_then = happens (port.octet z.far.value) v.far
-
     pub near-is : u.near ≡ without_first_octet (happens (port.octet z.near.value) v.near)
     near-is = z.near.is ∙ ap (λ o. without_first_octet (happens (port.octet (unwrap_or o z.near.value)) v.near)) is_clean.0
 
     far-is : u.far ≡ without_first_octet (happens (port.octet z.far.value) v.far)
     far-is = z.far.is ∙ ap (λ o. without_first_octet (happens (port.octet (unwrap_or o z.far.value)) v.far)) is_clean.1
 
-    pub near_hears : Hears l.near l.service l.tei fit.call.near.0 l.far fit.call.far.0 l.near.n201 refl (sym size) (sym opposite) v.near.at (circuit.happens (port.octet z.near.value) v.near.at) near2
+    pub near_hears : Hears l.near l.service l.tei fit.call.near.0 l.far fit.call.far.0 l.near.n201 refl (sym fit.call.opposite.1) (sym opposite) v.near.at (circuit.happens (port.octet z.near.value) v.near.at) near2
     near_hears =
-        hears-moved l.near l.service l.tei fit.call.near.0 l.far fit.call.far.0 l.near.n201 refl (sym size) (sym opposite) v.near v.far near2 far2
+        hears-moved l.near l.service l.tei fit.call.near.0 l.far fit.call.far.0 l.near.n201 refl (sym fit.call.opposite.1) (sym opposite) v.near v.far near2 far2
         (subst (λ o. IsClearAt l.near.n201 o v.near v.far) is_clean.0 near_clear) z.near.value z.near.more z.near.comes
 
     abbrev pub near_mv : Moved l.near l.service l.tei 0 fit.call.near.0 v.near.at (circuit.happens (port.octet z.near.value) v.near.at) near2 (λ e. (f : Parts) × (e ≡ link.received (link.frame f)))
     near_mv = near_hears.0
 
-    far_hears : Hears l.far l.service l.tei fit.call.far.0 l.near fit.call.near.0 l.near.n201 (sym size) refl (sym (sides-turned l.near l.far opposite)) v.far.at (circuit.happens (port.octet z.far.value) v.far.at) far2
+    far_hears : Hears l.far l.service l.tei fit.call.far.0 l.near fit.call.near.0 l.near.n201 (sym fit.call.opposite.1) refl (sym (sides-turned l.near l.far opposite)) v.far.at (circuit.happens (port.octet z.far.value) v.far.at) far2
     far_hears =
-        hears-moved l.far l.service l.tei fit.call.far.0 l.near fit.call.near.0 l.near.n201 (sym size) refl (sym (sides-turned l.near l.far opposite)) v.far v.near far2 near2
+        hears-moved l.far l.service l.tei fit.call.far.0 l.near fit.call.near.0 l.near.n201 (sym fit.call.opposite.1) refl (sym (sides-turned l.near l.far opposite)) v.far v.near far2 near2
         (subst (λ o. IsClearAt l.near.n201 o v.far v.near) is_clean.1 far_clear) z.far.value z.far.more z.far.comes
 
     -- what holds of the port and the link of an end, as it comes to the moment
@@ -154,12 +139,6 @@ module _ (l : Line) (fit : IsFit l) (n : ℕ) (x : Exchange n) (start : ℕ) whe
     )
 
     -- what is in transit after the pulls
-    near_coming : Comes l.way clean (port_of v.near.at) (z.far.value ∷ z.far.more) (port_of v.far.at)
-    near_coming = gone-there l fit.call clean w b y.since z
-
-    far_coming : Comes l.way clean (port_of v.far.at) (z.near.value ∷ z.near.more) (port_of v.near.at)
-    far_coming = gone-back l fit.call clean w b y.since z
-
     pub ready-then : Ready l fit clean base other_base u
     ready-then =
         let few = near-lost in let few_far = far-lost in let low = y.near_low in let far_is_low = y.far_low in
@@ -182,13 +161,12 @@ module _ (l : Line) (fit : IsFit l) (n : ℕ) (x : Exchange n) (start : ℕ) whe
     -- the states after the beat
     pub near-state : (n : ℕ) → state_at l u.near ≡ Some n → state_number near_mv.ends.its.state ≡ n
     near-state n is =
-        same_Some (state_number near_mv.ends.its.state) n
-        (sym (state-here l.near l.service l.tei 0 fit.call.near.0 l.lengths l.rate near_then.at near_mv.ends) ∙ ap (state_at l) (sym near-is) ∙ is)
+        same_Some (state_number near_mv.ends.its.state) n (sym (state-here l.near l.service l.tei 0 fit.call.near.0 l.lengths l.rate near_then.at near_mv.ends) ∙ ap (state_at l) (sym near-is) ∙ is)
 
     far-state : (n : ℕ) → state_at l u.far ≡ Some n → state_number far_hears.0.ends.its.state ≡ n
     far-state n is =
         same_Some (state_number far_hears.0.ends.its.state) n
-        (sym (state-here l.far l.service l.tei 0 fit.call.far.0 l.far_lengths l.rate far_then.at far_hears.0.ends) ∙ ap (state_at l) (sym far-is) ∙ is)
+        (sym (state-here l.far l.service l.tei 0 fit.call.far.0 l.far_lengths l.rate (happens (port.octet z.far.value) v.far).at far_hears.0.ends) ∙ ap (state_at l) (sym far-is) ∙ is)
 
     module _ (is_waiting : state_at l u.near ≡ Some n) (is_up : n ≡ 8 → (state_at l u.far ≡ Some 7) ⊎ (state_at l u.far ≡ Some 8)) (near_few : lost u.near.at ≤ base) (far_few : lost u.far.at ≤ other_base)
         (late : start ≤ w.beats) where
@@ -201,61 +179,47 @@ module _ (l : Line) (fit : IsFit l) (n : ℕ) (x : Exchange n) (start : ℕ) whe
       -- The command is heard: the answer is put.
       command-now : IsNow (is_of x.asking l.near) start asked_by l.way w.beats (port_of v.near.at) → w.beats ≤ asked_by + l.way → FarDue (w.beats + 1) u.far.at
       command-now now soon_heard =
-          let g = given-now in let c = way-now in
-          let h = now.0 in
+          let g = given-now in let c = way-now in let h = now.0 in
           let it = heard-here l.near.n201 (is_of x.asking l.near) start asked_by l.way w.beats clean (port_of v.near.at) (port_of v.far.at) z.far.value z.far.more
-          (fine l.near l.service l.tei 0 fit.call.near.0 v.near.at near2) near_coming now.0 now.1 soon_clean
-          (many-of l.way w.beats clean (port_of v.near.at) (z.far.value ∷ z.far.more) (port_of v.far.at) near_coming g.0 c.0) in
+          (fine l.near l.service l.tei 0 fit.call.near.0 v.near.at near2) (gone-there l fit.call clean w b y.since z) now.0 now.1 soon_clean
+          (many-of l.way w.beats clean (port_of v.near.at) (z.far.value ∷ z.far.more) (port_of v.far.at) (gone-there l fit.call clean w b y.since z) g.0 c.0) in
           let own = one-among (IsOwn l.near l.service l.tei 0 fit.call.near.0) (port_of v.near.at).items h.front h.o h.more h.items near2.frames in
-          let text = text-low l.far l.service l.tei 0 fit.call.far.0 v.far.at far2 in
-          let given = g.1 in
-          let low = y.far_low in let f0 = far-lost.0 in let f1 = far-lost.1 in
+          let text = text-low l.far l.service l.tei 0 fit.call.far.0 v.far.at far2 in let given = g.1 in let low = y.far_low in let f0 = far-lost.0 in let f1 = far-lost.1 in
           subst (λ (e : TimedEndpoint). FarDue (w.beats + 1) e.at) (sym far-is)
-          (to-here l.far l.service l.tei fit.call.far.0 x.answering start answered_by l.way (w.beats + 1) far_then.at far_hears.0.ends
-          (command-heard l.far l.service l.tei fit.call.far.0 l.near fit.call.near.0 l.near.n201 (sym size) refl (sym (sides-turned l.near l.far opposite)) v.far.at far2 z.far.value h.o own it n x far_hears.0.ends h.its
+          (to-here l.far l.service l.tei fit.call.far.0 x.answering start answered_by l.way (w.beats + 1) (happens (port.octet z.far.value) v.far).at far_hears.0.ends
+          (command-heard l.far l.service l.tei fit.call.far.0 l.near fit.call.near.0 l.near.n201 (sym fit.call.opposite.1) refl (sym (sides-turned l.near l.far opposite)) v.far.at far2 z.far.value h.o own it n x far_hears.0.ends h.its
           far-up (let few : lost (circuit.happens (port.octet z.far.value) v.far.at) ≤ other_base = subst (λ (e : TimedEndpoint). lost e.at ≤ other_base) far-is far_few in omega (arith, few, low, f0, f1)) start answered_by l.way (w.beats + 1)
           (omega (arith, text, given, late)) (omega (arith, given, soon_heard))))
 
       pub near-after : NearAfterPull → Stage u
-      near-after due = go (due-heard (is_of x.asking l.near) start asked_by l.way w.beats (port_of v.near.at) (ring l.near l.service l.tei 0 fit.call.near.0 near2.its) due)
-        where
-          go : IsNow (is_of x.asking l.near) start asked_by l.way w.beats (port_of v.near.at) ⊎ DueAt l.near l.service l.tei 0 fit.call.near.0 x.asking start asked_by l.way (w.beats + 1) v.near.at near2 → Stage u
-          go (inl now) =
-              let text = text-low l.near l.service l.tei 0 fit.call.near.0 v.near.at near2 in
-              let given = given-now.0 in
-              inr (command-now now (due-soon (is_of x.asking l.near) start asked_by l.way w.beats (port_of v.near.at) (ring l.near l.service l.tei 0 fit.call.near.0 near2.its) (omega (arith, text, given)) due))
-          go (inr later) =
-              inl (subst (λ (e : TimedEndpoint). NearDue (w.beats + 1) e.at) (sym near-is)
-              (to-here l.near l.service l.tei fit.call.near.0 x.asking start asked_by l.way (w.beats + 1) near_then.at near_mv.ends
-              (due-moved l.near l.service l.tei 0 fit.call.near.0 x.asking start asked_by l.way (w.beats + 1) v.near.at (circuit.happens (port.octet z.near.value) v.near.at) near2
-              (λ e. (f : Parts) × (e ≡ link.received (link.frame f))) near_mv (λ e is. plain l.near l.service l.tei fit.call.near.0 l.far fit.call.far.0 l.near.n201 refl (sym size) (sym opposite) e (near_mv.by e is)) later)))
-
-      abbrev FarAfterPull : Type 0
-      FarAfterPull = DueAt l.far l.service l.tei 0 fit.call.far.0 x.answering start answered_by l.way w.beats v.far.at far2
+      near-after due = by-either (due-heard (is_of x.asking l.near) start asked_by l.way w.beats (port_of v.near.at) (ring l.near l.service l.tei 0 fit.call.near.0 near2.its) due) (λ now.
+          let text = text-low l.near l.service l.tei 0 fit.call.near.0 v.near.at near2 in let given = given-now.0 in
+          inr (command-now now (due-soon (is_of x.asking l.near) start asked_by l.way w.beats (port_of v.near.at) (ring l.near l.service l.tei 0 fit.call.near.0 near2.its) (omega (arith, text, given)) due)))
+          (λ later.
+          inl (subst (λ (e : TimedEndpoint). NearDue (w.beats + 1) e.at) (sym near-is)
+          (to-here l.near l.service l.tei fit.call.near.0 x.asking start asked_by l.way (w.beats + 1) near_then.at near_mv.ends
+          (due-moved l.near l.service l.tei 0 fit.call.near.0 x.asking start asked_by l.way (w.beats + 1) v.near.at (circuit.happens (port.octet z.near.value) v.near.at) near2
+          (λ e. (f : Parts) × (e ≡ link.received (link.frame f))) near_mv (λ e is. plain l.near l.service l.tei fit.call.near.0 l.far fit.call.far.0 l.near.n201 refl (sym fit.call.opposite.1) (sym opposite) e (near_mv.by e is)) later))))
 
       -- The answer is heard: the end waits no more.
       answer-now : x.Still near2.its.state → IsNow (is_of x.answering l.far) start answered_by l.way w.beats (port_of v.far.at) → ⊥
       answer-now still now =
-          let g = given-now in let c = way-now in
-          let h = now.0 in
+          let g = given-now in let c = way-now in let h = now.0 in
           let it = heard-here l.far.n201 (is_of x.answering l.far) start answered_by l.way w.beats clean (port_of v.far.at) (port_of v.near.at) z.near.value z.near.more
-          (fine l.far l.service l.tei 0 fit.call.far.0 v.far.at far2) far_coming now.0 now.1 soon_clean
-          (many-of l.way w.beats clean (port_of v.far.at) (z.near.value ∷ z.near.more) (port_of v.near.at) far_coming g.1 c.1) in
+          (fine l.far l.service l.tei 0 fit.call.far.0 v.far.at far2) (gone-back l fit.call clean w b y.since z) now.0 now.1 soon_clean
+          (many-of l.way w.beats clean (port_of v.far.at) (z.near.value ∷ z.near.more) (port_of v.near.at) (gone-back l fit.call clean w b y.since z) g.1 c.1) in
           let own = one-among (IsOwn l.far l.service l.tei 0 fit.call.far.0) (port_of v.far.at).items h.front h.o h.more h.items far2.frames in
-          answer-heard l.near l.service l.tei fit.call.near.0 l.far fit.call.far.0 l.near.n201 refl (sym size) (sym opposite) v.near.at near2 z.near.value h.o own
-          (ap (λ n. gained n (port_of v.near.at).received z.near.value) size ∙ it) n x near_mv.ends h.its still (near-state n is_waiting)
+          answer-heard l.near l.service l.tei fit.call.near.0 l.far fit.call.far.0 l.near.n201 refl (sym fit.call.opposite.1) (sym opposite) v.near.at near2 z.near.value h.o own
+          (ap (λ n. gained n (port_of v.near.at).received z.near.value) fit.call.opposite.1 ∙ it) n x near_mv.ends h.its still (near-state n is_waiting)
 
-      far-after : x.Still near2.its.state → FarAfterPull → Stage u
-      far-after still due = go (due-heard (is_of x.answering l.far) start answered_by l.way w.beats (port_of v.far.at) (ring l.far l.service l.tei 0 fit.call.far.0 far2.its) due)
-        where
-          go : IsNow (is_of x.answering l.far) start answered_by l.way w.beats (port_of v.far.at) ⊎ DueAt l.far l.service l.tei 0 fit.call.far.0 x.answering start answered_by l.way (w.beats + 1) v.far.at far2 → Stage u
-          go (inl now) = absurd (answer-now still now)
-          go (inr later) =
-              inr (subst (λ (e : TimedEndpoint). FarDue (w.beats + 1) e.at) (sym far-is)
-              (to-here l.far l.service l.tei fit.call.far.0 x.answering start answered_by l.way (w.beats + 1) far_then.at far_hears.0.ends
-              (due-moved l.far l.service l.tei 0 fit.call.far.0 x.answering start answered_by l.way (w.beats + 1) v.far.at (circuit.happens (port.octet z.far.value) v.far.at) far2
-              (λ e. (f : Parts) × (e ≡ link.received (link.frame f))) far_hears.0
-              (λ e is. plain l.far l.service l.tei fit.call.far.0 l.near fit.call.near.0 l.near.n201 (sym size) refl (sym (sides-turned l.near l.far opposite)) e (far_hears.0.by e is)) later)))
+      far-after : x.Still near2.its.state → (DueAt l.far l.service l.tei 0 fit.call.far.0 x.answering start answered_by l.way w.beats v.far.at far2) → Stage u
+      far-after still due = by-either (due-heard (is_of x.answering l.far) start answered_by l.way w.beats (port_of v.far.at) (ring l.far l.service l.tei 0 fit.call.far.0 far2.its) due)
+          (λ now. absurd (answer-now still now)) (λ later.
+          inr (subst (λ (e : TimedEndpoint). FarDue (w.beats + 1) e.at) (sym far-is)
+          (to-here l.far l.service l.tei fit.call.far.0 x.answering start answered_by l.way (w.beats + 1) (happens (port.octet z.far.value) v.far).at far_hears.0.ends
+          (due-moved l.far l.service l.tei 0 fit.call.far.0 x.answering start answered_by l.way (w.beats + 1) v.far.at (circuit.happens (port.octet z.far.value) v.far.at) far2
+          (λ e. (f : Parts) × (e ≡ link.received (link.frame f))) far_hears.0
+          (λ e is. plain l.far l.service l.tei fit.call.far.0 l.near fit.call.near.0 l.near.n201 (sym fit.call.opposite.1) refl (sym (sides-turned l.near l.far opposite)) e (far_hears.0.by e is)) later))))
 
       pub near-given : length (port_of n1.at).given ≡ w.beats
       near-given = ap (λ (p : Port). length p.given) (near-come l fit w y.pair b talk).port ∙ p.near_counts.given
@@ -319,21 +283,19 @@ module _ (l : Line) (fit : IsFit l) (n : ℕ) (x : Exchange n) (start : ℕ) whe
               inl (subst (λ (e : TimedEndpoint). NearDue (w.beats + 1) e.at) (sym near-is)
               (to-here l.near l.service l.tei fit.call.near.0 x.asking start asked_by l.way (w.beats + 1) near_then.at near_mv.ends
               ((asks-moved l.near l.service l.tei fit.call.near.0 l.lengths l.rate n x start asked_by l.way (w.beats + 1) by-now (omega (arith, now)) v.near.at (circuit.happens (port.octet z.near.value) v.near.at) near2
-              (λ e. (f : Parts) × (e ≡ link.received (link.frame f))) near_mv (λ e is. plain l.near l.service l.tei fit.call.near.0 l.far fit.call.far.0 l.near.n201 refl (sym size) (sym opposite) e (near_mv.by e is)) none-lost
+              (λ e. (f : Parts) × (e ≡ link.received (link.frame f))) near_mv (λ e is. plain l.near l.service l.tei fit.call.near.0 l.far fit.call.far.0 l.near.n201 refl (sym fit.call.opposite.1) (sym opposite) e (near_mv.by e is)) none-lost
               (given-now.0, λ is. absurd (none is))).1 (near-state n is_waiting))))
             where
               none-lost : (e : LinkEvent) → near_mv.event ≡ Some e → (links.told (terms l.near l.service l.tei) e near2.its).lost ≡ 0
               none-lost e is =
-                  let all = near_hears.1 e is in
-                  let few : lost (circuit.happens (port.octet z.near.value) v.near.at) ≤ base = subst (λ (e : TimedEndpoint). lost e.at ≤ base) near-is near_few in
+                  let all = near_hears.1 e is in let few : lost (circuit.happens (port.octet z.near.value) v.near.at) ≤ base = subst (λ (e : TimedEndpoint). lost e.at ≤ base) near-is near_few in
                   let low = y.near_low in let n0 = near-lost.0 in let n1 = near-lost.1 in omega (arith, all, few, low, n0, n1)
 
               by-frame : (v : Option LinkEvent) → near_mv.event ≡ v → x.late ≡ 1
               by-frame None e = absurd (none (ap (λ (l : Link). state_number l.state) (sym (near_mv.link_is ∙ ap (λ v. option_map_or (λ e. links.after (terms l.near l.service l.tei) e near2.its) v near2.its) e)) ∙ near-state n is_waiting))
               by-frame (Some e) is =
                   let f = near_mv.by e is in
-                  elim (x.by_frame (terms l.near l.service l.tei) f.0 near2.its
-                  (ap (λ e. state_number (links.after (terms l.near l.service l.tei) e near2.its).state) (sym f.1)
+                  elim (x.by_frame (terms l.near l.service l.tei) f.0 near2.its (ap (λ e. state_number (links.after (terms l.near l.service l.tei) e near2.its).state) (sym f.1)
                   ∙ ap (λ (l : Link). state_number l.state) (sym (near_mv.link_is ∙ ap (λ v. option_map_or (λ e. links.after (terms l.near l.service l.tei) e near2.its) v near2.its) is)) ∙ near-state n is_waiting)) [
                     | inl was ↦ absurd (none was)
                     | inr late ↦ late

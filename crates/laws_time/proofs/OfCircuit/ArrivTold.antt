@@ -1,15 +1,21 @@
 -- What is told in a call with losses on a wire: which errors, and all data whose sender keeps nothing any more.
-use Rattle.laws_time.proofs.Vocabulary.{All, All-append, All-head, All-nil, All-tail, Bool, Called, CanCall, Config, ErrorCode, F, Face, FrameEndpoint as Endpoint, Held, IsBeginningOf, IsFullTalk, IsInRangeTerms as IsInRange, LineTold, Link, LinkEndpoint, List, Ok, Room, Service, StationStands, StayPatient, StepAt, Terms, ToldSo, Wire, [], all-left, ap, append-nil}
-use Rattle.laws_time.proofs.Vocabulary.{arith, at_far, at_near, bad_tei, behind, calling, cond, confirmed, data_told, doing, drop, end, error_f, expires, false, first_that_holds, flat_map, flat_map-append, for_layer_3, free_slots, front-none, indicated, inl, inr, length, length-drop, line_at, link-is, link-ranges, link-sound, link_of, loses, lossy-calls-come-through, map, nil_from_length}
-use Rattle.laws_time.proofs.Vocabulary.{no_link, not-told, option_to_list, patient-goes, queue_of, receives, refl, renewed, requests, rising-low, room_of, seeing, seen, sends, setting, subst, sym, take, take_all, takes_sabme, terms, true, ua, uncalled, wire_doing_all as doing_all, with_before, with_sabme, ℕ, ◌++◌, ◌==◌, ◌∙◌, ◌∷◌, ◌≡◌, ◌≤◌, ◌⊎◌}
+use Rattle.laws_time.proofs.Vocabulary.{All, All-append, All-cons, All-head, All-nil, All-replicate, All-tail, AreAsked, AreOctets, Beat, Bool, Call, Called, CallsBearNoise, CanCall, Clocked, Config, ErrorCode, Establish, F, Face, FrameEndpoint, FrameEndpoint as Endpoint, Held, IsAsked, IsBeginningOf, IsClean, IsFit, IsFullTalk, IsIdle, IsInRangeTerms as IsInRange, IsOfLink, IsTalk}
+use Rattle.laws_time.proofs.Vocabulary.{IsTold, Line, LineTold, Link, LinkEndpoint, List, OctetEndpoint, Ok, Room, Service, StationStands, StayPatient, StepAt, Terms, TimedEndpoint, ToldSo, Wire, [], after, all-left, ap, append-nil, arith, at_far, at_near, bad_tei, begins, behind, calling, calls, cond, confirmed, contents_at, data_told, doing, drop, end, error_f, errors_at, expires, false}
+use Rattle.laws_time.proofs.Vocabulary.{first_that_holds, flat_map, flat_map-append, for_layer_3, free_slots, front-none, indicated, inl, inr, is_used_up, length, length-drop, line_at, link-is, link-ranges, link-sound, link_of, list_any, list_any-append, loses, lossy-calls-come-through, map, nil_from_length, no_link, not-told, option_to_list, or_parts, patient-goes, plain, queue_of, receives}
+use Rattle.laws_time.proofs.Vocabulary.{refl, renewed, replicate, requests, rising-low, room_of, seeing, seen, sends, setting, subst, sym, take, take_all, takes_sabme, terms, true, ua, uncalled, wire_doing_all as doing_all, with_before, with_sabme, ℕ, ◌++◌, ◌<◌, ◌==◌, ◌∙◌, ◌∷◌, ◌≡◌, ◌≤◌, ◌⊎◌, by-either}
+use Rattle.laws_wire.proofs.UaLostRun as run
 use Rattle.model_link.proofs.Direction.{line_of}
 use Rattle.model_card.specs.Room.{room}
 use Rattle.laws_wire.specs.Losing.{heard_in}
 use Rattle.laws_wire.proofs.Ringing.{answered}
-use Rattle.laws_wire.proofs.UaLostRun as run
 use Rattle.laws_wire.proofs.UaPhases.{comes-none}
-use Rattle.laws_time.proofs.OfCircuit.ArrivFair.{codes, codes-append}
+use Rattle.laws_time.proofs.OfCircuit.ArrivSide.{codes, codes-append}
 use Rattle.laws_time.proofs.OfCircuit.CaughtAll.{its-room}
+use Rattle.laws_time.proofs.OfCircuit.ArrivIdle.{reached}
+use Rattle.laws_time.proofs.OfCircuit.ArrivBeat.{Reached}
+use Rattle.laws_time.proofs.OfCircuit.ArrivAs.{station, heard_of}
+use Rattle.laws_time.specs.circuit.WorkedArriving.{its_line, is_fit, talks, talked, none_used, no_errors, has_places, sends as sends_met}
+use Rattle.laws_time.proofs.OfCircuit.AgainLaw.{no-noise-is-clear}
 
 -- ---- codes and contents of what is told
 
@@ -124,16 +130,11 @@ module _ (service : Service) (tei : ℕ) (c d : Config) (p q : ℕ) (face : Face
 
     pub keeps-none : queue_of n.link ≡ []
     keeps-none =
-        let ranges = subst IsInRange stands.terms (link-ranges service tei place s n own) in
-        let config = stands.config in
-        let l = line_at s.line s.card in
+        let ranges = subst IsInRange stands.terms (link-ranges service tei place s n own) in let config = stands.config in let l = line_at s.line s.card in
         let same = ap (λ (r : Room). r.queue)
         (its-room (first_that_holds (bad_tei tei ∷ no_link tei l ∷ [])) (room_of (terms s.card.config service tei) (free_slots s.card) (link_of service tei l)) left has) in
-        let link = ap (λ (l : Link). length (queue_of l)) (link-is service tei k place s n stands) in
-        let few = (link-sound service tei place s n own).queue in
-        let terms_are = ap (λ (t : Terms). t.queue) stands.terms in
-        let queue_is = ap (λ (k : Config). k.queue) config in
-        let low = ranges.k_low in let queue_low = ranges.queue_low in
+        let link = ap (λ (l : Link). length (queue_of l)) (link-is service tei k place s n stands) in let few = (link-sound service tei place s n own).queue in
+        let terms_are = ap (λ (t : Terms). t.queue) stands.terms in let queue_is = ap (λ (k : Config). k.queue) config in let low = ranges.k_low in let queue_low = ranges.queue_low in
         nil_from_length (queue_of n.link) (omega (arith, same, link, few, terms_are, queue_is, low, queue_low, free))
 
   from-first : (xs : List (List ℕ)) (a : ℕ) → a ≡ 0 → drop a xs ≡ [] → xs ≡ []
@@ -154,29 +155,22 @@ module _ (service : Service) (tei : ℕ) (c d : Config) (p q : ℕ) (face : Face
   same-data past heard xs granted is none empty = is ∙ ap (λ xs. past ++ all_data xs) (none ∙ sym empty)
 
   module _ (past : List LineTold) (v : Wire) where
-    abbrev FarHas : Type 0
-    FarHas = heard_in v.far ≡ past ++ all_data v.near.granted
-
     abbrev Away : Bool → Endpoint → Type 0
     Away b s = run.Away service tei c d p q face back rt ru past b s
 
-    away-far : (b : Bool) → run.Rs service tei c d p q face back rt ru (Away b) v → FarHas
+    away-far : (b : Bool) → run.Rs service tei c d p q face back rt ru (Away b) v → (heard_in v.far ≡ past ++ all_data v.near.granted)
     away-far b h = grind arith
 
-    called-far : (b : Bool) → IsFree v.near → run.IsCalled service tei c d p q face back rt ru past b v → FarHas
+    called-far : (b : Bool) → IsFree v.near → run.IsCalled service tei c d p q face back rt ru past b v → (heard_in v.far ≡ past ++ all_data v.near.granted)
     called-far b free (inl h) = away-far b h
     called-far b free (inr (inl h)) = same-data past (heard_in v.far) h.far.M.delivered v.near.granted h.far.held.heard h.far.delivered h.near.granted
-    called-far b free (inr (inr (inl h))) =
-        same-data past (heard_in v.far) h.m.delivered v.near.granted h.far.heard (comes-none service tei c d p q face back rt ru past b v h) h.near.granted
+    called-far b free (inr (inr (inl h))) = same-data past (heard_in v.far) h.m.delivered v.near.granted h.far.heard (comes-none service tei c d p q face back rt ru past b v h) h.near.granted
     called-far b (left, has, is) (inr (inr (inr h))) =
         let none = keeps-none c p v.near h.n h.near.stands left has is in
         h.far.heard ∙ ap (λ xs. past ++ all_data xs)
         (h.loose.joined.there.delivered ∙ all-taken h.m.link.r h.n.link.a h.n.link.contents none (rising-low h.n.link.a h.m.link.r (line_of h.m) h.loose.joined.there.rising) ∙ sym h.near.granted)
 
-    abbrev NearHas : Type 0
-    NearHas = contents_of (heard_in v.near) ≡ v.far.granted
-
-    no-contents : heard_in v.near ≡ [] → v.far.granted ≡ [] → NearHas
+    no-contents : heard_in v.near ≡ [] → v.far.granted ≡ [] → (contents_of (heard_in v.near) ≡ v.far.granted)
     no-contents none empty = ap contents_of none ∙ sym empty
 
     its-none : (M : LinkEndpoint) → Held d service tei q past v.far M → M.link.a ≡ 0 → IsFree v.far → v.far.granted ≡ []
@@ -185,7 +179,7 @@ module _ (service : Service) (tei : ℕ) (c d : Config) (p q : ℕ) (face : Face
     away-near : (b : Bool) → IsFree v.far → run.Rs service tei c d p q face back rt ru (Away b) v → v.far.granted ≡ []
     away-near b h1z h2z = grind (arith, its-none)
 
-    called-near : (b : Bool) → IsFree v.far → run.IsCalled service tei c d p q face back rt ru past b v → NearHas
+    called-near : (b : Bool) → IsFree v.far → run.IsCalled service tei c d p q face back rt ru past b v → (contents_of (heard_in v.near) ≡ v.far.granted)
     called-near b free (inl h) = no-contents (not-told service tei c d p q face back rt ru (Away b) v h) (away-near b free h)
     called-near b free (inr (inl h)) = no-contents h.near.heard (its-none h.far.M h.far.held h.far.poised.a free)
     called-near b free (inr (inr (inl h))) =
@@ -193,8 +187,7 @@ module _ (service : Service) (tei : ℕ) (c d : Config) (p q : ℕ) (face : Face
         (let n = end (terms c service tei) (answered h.repeats []) [] in let low = rising-low h.m.link.a n.link.r (line_of n) h.loose.joined.back.rising in omega (arith, low)) free)
     called-near b (left, has, is) (inr (inr (inr h))) =
         let none = keeps-none d q v.far h.m h.far.stands left has is in
-        ap contents_of h.near.heard
-        ∙ contents-data service tei h.n.delivered
+        ap contents_of h.near.heard ∙ contents-data service tei h.n.delivered
         ∙ h.loose.joined.back.delivered ∙ all-taken h.n.link.r h.m.link.a h.m.link.contents none (rising-low h.m.link.a h.n.link.r (line_of h.n) h.loose.joined.back.rising) ∙ sym h.far.granted
 
   module _ (v : Wire) (down : run.Rs service tei c d p q face back rt ru (run.Down service tei c d p q face back rt ru) v) where
@@ -237,11 +230,9 @@ module _ (service : Service) (tei : ℕ) (c d : Config) (p q : ℕ) (face : Face
     told-contents none = grind (arith, few, indicated)
 
     far-begins : codes (heard_in w.far) ≡ [] → IsBeginningOf (indicated service tei ∷ map (data_told service tei) w.near.granted) (heard_in w.far)
-    far-begins none = go (few none)
-      where
-        go : ((x.told ≡ []) × (x.given_up ≡ 0)) ⊎ ((x.told ≡ indicated service tei ∷ []) × (x.given_up ≡ 0)) → IsBeginningOf (indicated service tei ∷ map (data_told service tei) w.near.granted) (heard_in w.far)
-        go (inl y) = (indicated service tei ∷ map (data_told service tei) w.near.granted, ap (λ ts. ts ++ (indicated service tei ∷ map (data_told service tei) w.near.granted)) (untold x w h y.0))
-        go (inr y) = subst (λ ts. IsBeginningOf (ts ++ map (data_told service tei) w.near.granted) (heard_in w.far)) y.0 t.far.0
+    far-begins none = by-either (few none)
+        (λ y. (indicated service tei ∷ map (data_told service tei) w.near.granted, ap (λ ts. ts ++ (indicated service tei ∷ map (data_told service tei) w.near.granted)) (untold x w h y.0)))
+        (λ y. subst (λ ts. IsBeginningOf (ts ++ map (data_told service tei) w.near.granted) (heard_in w.far)) y.0 t.far.0)
 
     pub concluded : Concluded w
     concluded = record {
@@ -264,9 +255,68 @@ starts service c d line other tei can = patient-goes service c d line other tei 
 pub call-concludes : (service : Service) (c d : Config) (line other tei : ℕ) (ds : List StepAt) (can : CanCall c line d other tei) → All (IsFullTalk service tei) ds
     → let s = setting service c d line other tei can in let begun = calling service tei c line d other in StayPatient ds begun → Concluded service tei c d 0 0 s.face s.back s.near s.far (doing_all ds begun)
 call-concludes service c d line other tei ds can talk patient =
-    let s = setting service c d line other tei can in
-    let begun = calling service tei c line d other in
-    let none : Known service tei [] 0 = record { all_f = All-nil IsF; kinds = inl (refl, refl) } in
+    let s = setting service c d line other tei can in let begun = calling service tei c line d other in let none : Known service tei [] 0 = record { all_f = All-nil IsF; kinds = inl (refl, refl) } in
     concluded service tei c d 0 0 s.face s.back s.near s.far (seen service tei ds begun uncalled) (doing_all ds begun) (patient-goes service c d line other tei ds can talk patient)
     (all-known service tei c d 0 0 s.face s.back s.near s.far ds talk begun patient uncalled (starts service c d line other tei can) none)
     (lossy-calls-come-through service c d line other tei ds can talk patient)
+
+-- ---- a call bears noise: what is told of it on a wire is told of the circuit
+
+module _ (l : Line) (fit : IsFit l) (start : Wire) (w : Clocked) (r : Reached l fit start w) (face : Face l.near l.far) (back : Face l.far l.near)
+    (rt : IsInRange (terms l.near l.service l.tei)) (ru : IsInRange (terms l.far l.service l.tei)) (k : Concluded l.service l.tei l.near l.far 0 0 face back rt ru r.f) where
+  abbrev Free : FrameEndpoint → Type 0
+  Free s = IsFree l.service l.tei l.near l.far 0 0 face back rt ru s
+
+  -- What is said of either end.
+  heard-is : (s : FrameEndpoint) (u : OctetEndpoint) (there : List (List ℕ)) (ts : List LineTold) → s ≡ station there ts u → heard_of ts ≡ heard_of u.told → heard_in s ≡ flat_map for_layer_3 u.told
+  heard-is s u there ts is heard = ap heard_in is ∙ heard
+
+  told-so : (first : LineTold) (s x : FrameEndpoint) (a b : TimedEndpoint) (there back : List (List ℕ)) (ts us : List LineTold) → s ≡ station there ts a.at → x ≡ station back us b.at → heard_of us ≡ heard_of b.at.told
+      → IsBeginningOf (first ∷ map (data_told l.service l.tei) s.granted) (heard_in x) → (Free s → contents_of (heard_in x) ≡ s.granted) → IsTold l first a b
+  told-so first s x a b there back ts us is same heard order all = grind (arith, heard-is, map, data_told, heard_in, contents-heard, contents_of)
+
+  pub is-told : (errors_at w.near ≡ []) × All (λ code. code ≡ F) (errors_at w.far) × (errors_at w.far ≡ [] → IsTold l (confirmed l.service l.tei) w.far w.near × IsTold l (indicated l.service l.tei) w.near w.far)
+  is-told =
+      let s = r.same in
+      let near_codes : errors_at w.near ≡ codes (heard_in r.f.near) = sym (codes-heard w.near.at.told) ∙ ap codes (sym (heard-is r.f.near w.near.at s.there s.ts s.near_is s.near_heard)) in
+      let far_codes : errors_at w.far ≡ codes (heard_in r.f.far) = sym (codes-heard w.far.at.told) ∙ ap codes (sym (heard-is r.f.far w.far.at s.back s.us s.far_is s.far_heard)) in (
+        near_codes ∙ k.near_codes,
+        subst (All (λ code. code ≡ F)) (sym far_codes) k.far_codes,
+        λ none. let quiet = sym far_codes ∙ none in (
+          told-so (confirmed l.service l.tei) r.f.far r.f.near w.far w.near s.back s.there s.us s.ts s.far_is s.near_is s.near_heard (k.near_order quiet) (k.near_all quiet),
+          told-so (indicated l.service l.tei) r.f.near r.f.far w.near w.far s.there s.back s.ts s.us s.near_is s.far_is s.far_heard (k.far_order quiet) (k.far_all quiet),
+        ),
+      )
+
+pub calls-bear-noise : CallsBearNoise
+calls-bear-noise l before bs b fit idle all clear = λ fair.
+    let w = after l.rate (before ++ calls l b ∷ bs) (begins l) in
+    let both = or_parts (list_any is_used_up (errors_at w.near)) (list_any is_used_up (errors_at w.far)) (sym (list_any-append is_used_up (errors_at w.near) (errors_at w.far)) ∙ fair) in
+    let r = reached l fit before b bs idle (All-head (AreAsked l) b bs all) (All-tail (AreAsked l) b bs all) clear both in
+    let s = setting l.service l.near l.far l.near_line l.far_line l.tei fit.call in
+    is-told l fit (calling l.service l.tei l.near l.near_line l.far l.far_line) w r s.face s.back s.near s.far
+    (subst (Concluded l.service l.tei l.near l.far 0 0 s.face s.back s.near s.far) r.path.leads
+    (call-concludes l.service l.near l.far l.near_line l.far_line l.tei r.path.steps fit.call r.path.done r.path.patient))
+
+-- ---- a run without noise meets the premises of `calls_bear_noise`
+
+talks-all : (P : Beat → Type 0) → P plain → P sends_met → All P talks
+talks-all P first then = All-append P (replicate 15 plain) (sends_met ∷ replicate 20 plain) (All-replicate P 15 plain first) (All-cons P sends_met (replicate 20 plain) then (All-replicate P 20 plain first))
+
+pub octet : AreOctets (0xAB ∷ [])
+octet = All-cons (λ octet. octet < 256) 0xAB [] (omega arith) (All-nil (λ octet. octet < 256))
+
+all-asked : All (AreAsked its_line) (plain ∷ talks)
+all-asked =
+    All-cons (AreAsked its_line) plain talks (All-nil (IsAsked its_line), All-nil (IsAsked its_line)) (talks-all (AreAsked its_line) (All-nil (IsAsked its_line), All-nil (IsAsked its_line))
+    (All-cons (IsAsked its_line) (Rattle.model_line.specs.Request.Data Call 0 (0xAB ∷ [])) [] (refl, refl, octet) (All-nil (IsAsked its_line)), All-nil (IsAsked its_line)))
+
+all-talk : All (IsTalk its_line) (calls its_line plain ∷ talks)
+all-talk =
+    All-cons (IsTalk its_line) (calls its_line plain) talks (All-cons (IsOfLink Call 0) (Establish Call 0) [] (refl, refl) (All-nil (IsOfLink Call 0)), All-nil (IsOfLink Call 0))
+    (talks-all (IsTalk its_line) (All-nil (IsOfLink Call 0), All-nil (IsOfLink Call 0))
+    (All-cons (IsOfLink Call 0) (Rattle.model_line.specs.Request.Data Call 0 (0xAB ∷ [])) [] (refl, refl, octet) (All-nil (IsOfLink Call 0)), All-nil (IsOfLink Call 0)))
+
+-- So all was told there.
+all-told : contents_at talked.far ≡ talked.near.at.granted
+all-told = ((calls-bear-noise its_line [] talks plain is_fit (All-nil IsIdle) all-asked (no-noise-is-clear its_line (calls its_line plain ∷ talks) is_fit all-talk (All-cons IsClean (calls its_line plain) talks (refl, refl) (talks-all IsClean (refl, refl) (refl, refl)))) none_used).2 no_errors).1.all has_places

@@ -1,13 +1,131 @@
--- One direction of the clocked circuit: the frames on the way of an end, where what comes at the other may be noise.
-use Rattle.laws_time.proofs.Vocabulary.{All, AreOctets, Bool, Carries, Config, IsFrame, IsInRange, IsSoundPort, List, NextFrame, None, OctetEndpoint, OneHeard, Option, Port, Ran, Some, [], answer, answer_to, ap, append_assoc, append_cancel_right, arith, as_endpoint, came, cond, drop, false, frames_among, gained, given_in, gives-octets, if_meant, inl, inr, is_due, item_of, length, length-append}
-use Rattle.laws_time.proofs.Vocabulary.{line_answer, meant, next_octet, none-heard, on-line, one-heard, one-put, option_map, port-after, port_of, refl, replicate, sound-port, subst, sym, takes_slot, true, with_item, with_octet, within-ports, ℕ, ◌++◌, ◌+◌, ◌∙◌, ◌∷◌, ◌≡◌, ◌≤◌, ◌⊎◌}
+-- One direction of the clocked circuit, where what comes may be noise. What came before a flag does not matter, and flags before a text are not heard.
+use Rattle.laws_time.proofs.Vocabulary.{All, AreHeardWhole, AreOctets, Bool, Carries, Config, IsFrame, IsInRange, IsSoundPort, List, NextFrame, None, OctetEndpoint, OneHeard, Option, Port, Ran, Some, [], after_flag, answer, answer_to, ap, append-nil, append_assoc, append_cancel_left, append_cancel_right, arith, as_endpoint, bits, bits-append, came, cases_lt, cond, drop, ends_flag, false, flag}
+use Rattle.laws_time.proofs.Vocabulary.{flags, flat_map, frames_among, frames_of, frames_round_trip_lem, gained, given_in, gives-octets, heard_at, heard_in, heard_until, heard_until-onto, heard_with, idle, if_meant, inl, inr, is_due, item_of, item_text, length, length-append, length-bits, length-replicate, line_answer, low_bits, meant, min, next_octet, none-heard, on-line, one-heard, one-put}
+use Rattle.laws_time.proofs.Vocabulary.{option_map, option_to_list, port-after, port_of, refl, replicate, reverse_aux, reverse_aux-append, room_for, since_flag, sound-port, subst, suc, sym, takes_slot, true, with_item, with_octet, within-ports, zero, ℕ, ◌++◌, ◌+◌, ◌<◌, ◌∙◌, ◌∷◌, ◌≡◌, ◌≤◌, ◌⊎◌}
 use Rattle.model_bits.specs.Stream as stream
 use Rattle.model_line.specs.Event as line
 use Rattle.model_card.specs.Event as frames
 use Rattle.model_card.specs.Machine as machine
 use Rattle.model_card.specs.ports.Port as port
 use Rattle.laws_wire.specs.Wire as wire
+use Rattle.model_bits.specs.OpenGap.{run_of}
+use Rattle.model_bits.proofs.Places.{ends_flag-run}
+use Rattle.model_bits.proofs.RoundTripPlaces.{hears}
 use Rattle.laws_order.specs.circuit.Circuit.{happens}
+use Rattle.laws_time.proofs.OfCircuit.AnsweredBits.{longer-begins}
+
+-- After a flag, what came before it does not matter.
+run-same : (w P Q : List Bool) → run_of (w ++ after_flag P) ≡ run_of (w ++ after_flag Q)
+run-same [] P Q = refl
+run-same (false ∷ w) P Q = refl
+run-same (true ∷ w) P Q = ap (λ n. min 7 (n + 1)) (run-same w P Q)
+
+flag-same : (b : Bool) (w P Q : List Bool) → ends_flag (b ∷ (w ++ after_flag P)) ≡ ends_flag (b ∷ (w ++ after_flag Q))
+flag-same b w P Q = grind (arith, ends_flag-run, run-same)
+
+since-same : (w P Q : List Bool) → since_flag (w ++ after_flag P) ≡ since_flag (w ++ after_flag Q)
+since-same [] P Q = refl
+since-same (b ∷ w) P Q =
+    ap (λ t. cond t (Some []) (option_map (λ g. b ∷ g) (since_flag (w ++ after_flag P)))) (flag-same b w P Q)
+    ∙ ap (λ o. cond (ends_flag (b ∷ (w ++ after_flag Q))) (Some []) (option_map (λ g. b ∷ g) o)) (since-same w P Q)
+
+heard-same : (room : ℕ) (b : Bool) (w P Q : List Bool) → heard_at room (b ∷ (w ++ after_flag P)) ≡ heard_at room (b ∷ (w ++ after_flag Q))
+heard-same room b w P Q = grind (arith, flag-same, since-same)
+
+pub hears-same : (room : ℕ) (y w P Q : List Bool) → hears room (w ++ after_flag P) y ≡ hears room (w ++ after_flag Q) y
+hears-same room [] w P Q = refl
+hears-same room (b ∷ y) w P Q =
+    ap (λ o. option_to_list o ++ hears room (b ∷ (w ++ after_flag P)) y) (heard-same room b w P Q)
+    ∙ ap (λ l. option_to_list (heard_at room (b ∷ (w ++ after_flag Q))) ++ l) (hears-same room y (b ∷ w) P Q)
+
+-- Flags before a text are not heard.
+pub bits-flags : (n : ℕ) → bits (replicate n 0x7E) ≡ flat_map item_text (replicate n idle)
+unfolding low_bits
+bits-flags zero = refl
+bits-flags (suc n) = ap (λ b. flag ++ b) (bits-flags n)
+
+whole-idle : (n201 n : ℕ) → AreHeardWhole n201 (replicate n idle)
+whole-idle n201 zero = tt
+whole-idle n201 (suc n) = whole-idle n201 n
+
+none-of : (n : ℕ) → frames_of (replicate n idle) ≡ []
+none-of zero = refl
+none-of (suc n) = none-of n
+
+flag-last : (n : ℕ) → flags n ++ 0x7E ∷ [] ≡ flags (suc n)
+flag-last zero = refl
+flag-last (suc n) = ap (λ os. 0x7E ∷ os) (flag-last n)
+
+pub part-of : (n : ℕ) (x m : List ℕ) → replicate n 0x7E ≡ x ++ m → x ≡ replicate (length x) 0x7E
+part-of n [] m is = refl
+part-of zero (a ∷ x) m is = cc is
+part-of (suc n) (a ∷ x) m is = go (cc is) (part-of n x m (cc is))
+  where
+    go : 0x7E ≡ a → x ≡ replicate (length x) 0x7E → a ∷ x ≡ 0x7E ∷ replicate (length x) 0x7E
+    go same rest = λ i. sym same i ∷ rest i
+
+module _ (n201 : ℕ) where
+  pub flags-silent : (n : ℕ) → heard_in n201 (replicate n 0x7E) ≡ []
+  flags-silent zero = refl
+  flags-silent (suc n) =
+      frames_round_trip_lem n201 (replicate n idle) (replicate (suc n) 0x7E) 0 (omega arith) (whole-idle n201 n) (bits-flags (suc n) ∙ sym (append-nil (flag ++ flat_map item_text (replicate n idle))))
+      ∙ none-of n
+
+  text-heard : (n : ℕ) (x : List ℕ) (y : List Bool) → bits x ≡ flag ++ y
+      → heard_in n201 (replicate n 0x7E ++ x) ≡ heard_until (room_for n201) (after_flag (reverse_aux (bits (replicate n 0x7E)) [])) ++ hears (room_for n201) (after_flag (reverse_aux (bits (replicate n 0x7E)) [])) y
+  text-heard n x y is = grind (arith, bits-append, reverse_aux-append, heard_until-onto)
+
+  silent-place : (n : ℕ) → heard_until (room_for n201) (after_flag (reverse_aux (bits (replicate n 0x7E)) [])) ≡ []
+  silent-place n =
+      sym (append-nil (heard_until (room_for n201) (after_flag (reverse_aux (bits (replicate n 0x7E)) [])))) ∙ sym (text-heard n (0x7E ∷ []) [] (bits-flags 1))
+      ∙ ap (heard_in n201) (flag-last n) ∙ flags-silent (suc n)
+
+  pub heard-after : (x : List ℕ) (y : List Bool) → bits x ≡ flag ++ y → heard_in n201 x ≡ hears (room_for n201) (after_flag []) y
+  heard-after x y is = text-heard 0 x y is ∙ ap (λ l. l ++ hears (room_for n201) (after_flag []) y) (silent-place 0)
+
+  abbrev pub Begins : List ℕ → Type 0
+  Begins x = (x ≡ []) ⊎ ((y : List Bool) × (bits x ≡ flag ++ y))
+
+  pub flags-before : (n : ℕ) (x : List ℕ) → Begins x → heard_in n201 (replicate n 0x7E ++ x) ≡ heard_in n201 x
+  flags-before n x (inl none) = grind (arith, heard_in, replicate, append-nil, flags-silent)
+  flags-before n x (inr y) =
+      let P = reverse_aux (bits (replicate n 0x7E)) [] in
+      text-heard n x y.0 y.1 ∙ ap (λ l. l ++ hears (room_for n201) (after_flag P) y.0) (silent-place n) ∙ hears-same (room_for n201) y.0 [] P [] ∙ sym (heard-after x y.0 y.1)
+
+  -- Of what was given, first a flag.
+  pub begins-so : (g x more : List ℕ) (left t : List Bool) → bits g ++ left ≡ flag ++ t → g ≡ x ++ more → Begins x
+  begins-so g [] more left t text is = inl refl
+  begins-so g (a ∷ x) more left t text is =
+      let all : bits (a ∷ x) ++ (bits more ++ left) ≡ flag ++ t = grind (arith, append_assoc, bits, bits-append) in let long = length-bits (a ∷ x) in
+      let r = longer-begins flag t (bits (a ∷ x)) (bits more ++ left) (sym all) (omega (arith, long)) in inr (r.0, r.1)
+
+  same-gain : (H : List stream.Event) (e : stream.Event) (o : Option stream.Event) → H ++ option_to_list o ≡ H ++ e ∷ [] → o ≡ Some e
+  same-gain h e h' is = grind (arith, append_cancel_left)
+
+  none-gained : (H : List stream.Event) (e : stream.Event) → [] ≡ H ++ e ∷ [] → ⊥
+  none-gained [] e is = cc is
+  none-gained (h ∷ H) e is = cc is
+
+  -- What is heard after the flags of the beginning stood in what was given.
+  pub gained-there : (way : ℕ) (g x : List ℕ) (value : ℕ) (more : List ℕ) (left t : List Bool) (e : stream.Event) → bits g ++ left ≡ flag ++ t → replicate way 0x7E ++ g ≡ x ++ (value ∷ more)
+      → gained n201 x value ≡ Some e → (before : List ℕ) × (g ≡ before ++ value ∷ more) × (gained n201 before value ≡ Some e)
+  gained-there way g x value more left t e text is gains = go (cases_lt (length x) way)
+    where
+      go : (length x < way) ⊎ (way ≤ length x) → (before : List ℕ) × (g ≡ before ++ value ∷ more) × (gained n201 before value ≡ Some e)
+      go (inl few) =
+          let long = length-append x (value ∷ []) in let all : length (flags way) ≡ way = length-replicate {A = ℕ} way 0x7E in
+          let r = longer-begins (x ++ value ∷ []) more (replicate way 0x7E) g (append_assoc x (value ∷ []) more ∙ sym is) (omega (arith, few, long, all)) in
+          let silent = ap (heard_in n201) (part-of way (x ++ value ∷ []) r.0 r.1) ∙ flags-silent (length (x ++ value ∷ [])) in absurd (none-gained (heard_in n201 x) e (sym silent ∙ (heard_with n201 x value ∙ ap (λ o. heard_in n201 x ++ option_to_list o) gains)))
+      go (inr many) =
+          let all : length (flags way) ≡ way = length-replicate {A = ℕ} way 0x7E in let r = longer-begins (replicate way 0x7E) g x (value ∷ more) is (omega (arith, many, all)) in let before = r.0 in
+          let first = flags-before way before (begins-so g before (value ∷ more) left t text r.2) in
+          let then = flags-before way (before ++ value ∷ []) (begins-so g (before ++ value ∷ []) more left t text (r.2 ∙ sym (append_assoc before (value ∷ []) more))) in
+          let there : heard_in n201 (before ++ value ∷ []) ≡ heard_in n201 before ++ e ∷ [] =
+          sym then ∙ ap (heard_in n201) (sym (append_assoc (replicate way 0x7E) before (value ∷ [])) ∙ ap (λ os. os ++ value ∷ []) (sym r.1)) ∙ (heard_with n201 x value ∙ ap (λ o. heard_in n201 x ++ option_to_list o) gains)
+          ∙ ap (λ h. h ++ e ∷ []) (ap (heard_in n201) r.1 ∙ first) in
+          (before, r.2, same-gain (heard_in n201 before) e (gained n201 before value) (sym (heard_with n201 before value) ∙ there))
+
+-- ---- one direction of the clocked circuit: the frames on the way of an end, where what comes at the other may be noise
 
 -- The first octets in transit are flags that no pull gave; behind them is what was given, and not heard yet.
 pub record Going (n201 : ℕ) (p : Port) (way : List ℕ) (there : List (List ℕ)) : Type 0 where
@@ -50,10 +168,8 @@ module _ (c : Config) (ranged : IsInRange c) (s : OctetEndpoint) (ran : Ran c s)
       Flow n201 k (with_octet q) (way ++ next_octet q ∷ []) received (if_meant o (as_endpoint there s)).way
   unfolding line_answer takes_slot
   pulled-goes n201 k way received flow true =
-      let g = given_in (machine.answer (frames.at s.line line.next) s.card.card) in
-      let q : Port = record (port_of s) { items = (port_of s).items ++ item_of g ∷ [] } in
-      subst (λ frames. Flow n201 k (with_octet q) (way ++ next_octet q ∷ []) received (there ++ frames)) (frame-put g)
-      (octet-flows n201 k q way received (there ++ frames_among (item_of g ∷ []))
+      let g = given_in (machine.answer (frames.at s.line line.next) s.card.card) in let q : Port = record (port_of s) { items = (port_of s).items ++ item_of g ∷ [] } in
+      subst (λ frames. Flow n201 k (with_octet q) (way ++ next_octet q ∷ []) received (there ++ frames)) (frame-put g) (octet-flows n201 k q way received (there ++ frames_among (item_of g ∷ []))
       (one-put n201 (flagged k (port_of s)) way received there flow (item_of g) (octets-put g (λ f is. gives-octets c ranged s ran f (ap line.gave is)))))
   pulled-goes n201 k way received flow false = octet-flows n201 k (port_of s) way received there flow
 
@@ -61,8 +177,7 @@ module _ (c : Config) (ranged : IsInRange c) (s : OctetEndpoint) (ran : Ran c s)
       → Going c.n201 (port_of (happens port.pull s)) (happens port.pull s).way (if_meant (cond due (Some line.next) None) (as_endpoint there s)).way
   unfolding answer meant
   pulled-way due is h =
-      let o : Option line.Event = cond (is_due (port_of s)) (Some line.next) None in
-      let q = with_item (option_map (answer_to s.card.card) (option_map (frames.at s.line) o)) (port_of s) in
+      let o : Option line.Event = cond (is_due (port_of s)) (Some line.next) None in let q = with_item (option_map (answer_to s.card.card) (option_map (frames.at s.line) o)) (port_of s) in
       let frames_now = (if_meant (cond (is_due (port_of s)) (Some line.next) None) (as_endpoint there s)).way in
       subst (λ b. Going c.n201 (port_of (happens port.pull s)) (happens port.pull s).way (if_meant (cond b (Some line.next) None) (as_endpoint there s)).way) is
       (record {
@@ -114,21 +229,15 @@ module _ (n201 : ℕ) (c : Config) (ranged : IsInRange c) (size : c.n201 ≡ n20
   -- flags come first
   not-given : (flag : ℕ) (flags : List ℕ) → h.flags ≡ flag ∷ flags → (before : List ℕ) → (port_of s).given ≡ before ++ value ∷ more → ⊥
   not-given flag flags is before given =
-      let none = h.first (subst (λ fs. 1 ≤ length fs) (sym is) (omega arith)) in
-      let all = ap length (h.carries.given ∙ ap (λ b. b ++ h.rest) none) in
-      let way = ap length (h.way_is ∙ ap (λ fs. fs ++ h.rest) is) in
-      let so = ap length given ∙ length-append before (value ∷ more) in
-      let long = length-append (flag ∷ flags) h.rest in
+      let none = h.first (subst (λ fs. 1 ≤ length fs) (sym is) (omega arith)) in let all = ap length (h.carries.given ∙ ap (λ b. b ++ h.rest) none) in
+      let way = ap length (h.way_is ∙ ap (λ fs. fs ++ h.rest) is) in let so = ap length given ∙ length-append before (value ∷ more) in let long = length-append (flag ∷ flags) h.rest in
       omega (arith, all, way, so, long)
 
-  none-of : (o' : Option stream.Event) → o ≡ o' → ((e : stream.Event) → o ≡ Some e → IsFrame e → ⊥) → IsNoFrame o'
-  none-of None is nay = tt
-  none-of (Some (stream.dropped cause)) is nay = tt
-  none-of (Some (stream.frame octets)) is nay = nay (stream.frame octets) is tt
-  none-of (Some (stream.overlong head)) is nay = nay (stream.overlong head) is tt
-
-  shorter : (a b w : List ℕ) → a ++ w ≡ b ++ w → a ≡ b
-  shorter a b w is = append_cancel_right a b w is
+  none-of-way : (o' : Option stream.Event) → o ≡ o' → ((e : stream.Event) → o ≡ Some e → IsFrame e → ⊥) → IsNoFrame o'
+  none-of-way None is nay = tt
+  none-of-way (Some (stream.dropped cause)) is nay = tt
+  none-of-way (Some (stream.frame octets)) is nay = nay (stream.frame octets) is tt
+  none-of-way (Some (stream.overlong head)) is nay = nay (stream.overlong head) is tt
 
   pub comes : Comes
   comes = go h.flags refl
@@ -137,43 +246,28 @@ module _ (n201 : ℕ) (c : Config) (ranged : IsInRange c) (size : c.n201 ≡ n20
       go (f ∷ fs) is =
           let way = h.way_is ∙ ap (λ fs. fs ++ h.rest) is in
           inl (record {
-            none = none-of o refl (λ e gains its. let x = clear e gains its in not-given f fs is x.0 x.1);
-            goes = record {
-              flags = fs;
-              rest = h.rest;
-              before = h.before;
-              carries = h.carries;
-              way_is = ap (drop 1) way;
-              first = λ some. h.first (subst (λ fs. 1 ≤ length fs) (sym is) (omega arith));
-            };
+            none = none-of-way o refl (λ e gains its. let x = clear e gains its in not-given f fs is x.0 x.1);
+            goes = record { flags = fs; rest = h.rest; before = h.before; carries = h.carries; way_is = ap (drop 1) way; first = λ some. h.first (subst (λ fs. 1 ≤ length fs) (sym is) (omega arith)) };
           })
       go [] is = by (gained n201 h.before value) refl
         where
-          rest_is : h.rest ≡ value ∷ more
-          rest_is = sym (h.way_is ∙ ap (λ fs. fs ++ h.rest) is)
-
-          given_is : (port_of s).given ≡ h.before ++ value ∷ more
-          given_is = h.carries.given ∙ ap (λ w. h.before ++ w) rest_is
-
           same-before : (before : List ℕ) → (port_of s).given ≡ before ++ value ∷ more → before ≡ h.before
-          same-before before given = shorter before h.before (value ∷ more) (sym given ∙ given_is)
+          same-before before given = append_cancel_right before h.before (value ∷ more) (sym given ∙ (h.carries.given ∙ ap (λ w. h.before ++ w) (sym (h.way_is ∙ ap (λ fs. fs ++ h.rest) is))))
 
           then : (left : List (List ℕ)) → Carries n201 (port_of s) more (h.before ++ value ∷ []) left → Going n201 (port_of s) more left
           then left carries = record { flags = []; rest = more; before = h.before ++ value ∷ []; carries = carries; way_is = refl; first = λ some. absurd (omega (arith, some)) }
 
           none-now : gained n201 h.before value ≡ None → (e : stream.Event) → o ≡ Some e → IsFrame e → ⊥
           none-now none e gains its =
-              let x = clear e gains its in
-              none-some e (sym none ∙ ap (λ b. gained n201 b value) (sym (same-before x.0 x.1)) ∙ x.2)
+              let x = clear e gains its in none-some e (sym none ∙ ap (λ b. gained n201 b value) (sym (same-before x.0 x.1)) ∙ x.2)
             where
               none-some : (e : stream.Event) → None ≡ Some e → ⊥
               none-some e is = cc is
 
           by : (g : Option stream.Event) → gained n201 h.before value ≡ g → Comes
-          by None none = inl (record { none = none-of o refl (none-now none); goes = then there (none-heard n201 (port_of s) h.rest h.before there h.carries value more rest_is none) })
+          by None none = inl (record { none = none-of-way o refl (none-now none); goes = then there (none-heard n201 (port_of s) h.rest h.before there h.carries value more (sym (h.way_is ∙ ap (λ fs. fs ++ h.rest) is)) none) })
           by (Some e) some =
-              let x = one-heard n201 (port_of s) h.rest h.before there h.carries sound (on-line c ranged s ran) value more e rest_is some in
-              by-gain x o refl
+              let x = one-heard n201 (port_of s) h.rest h.before there h.carries sound (on-line c ranged s ran) value more e (sym (h.way_is ∙ ap (λ fs. fs ++ h.rest) is)) some in by-gain x o refl
             where
               same-event : (e f : stream.Event) → Some e ≡ Some f → e ≡ f
               same-event e f is = cc is

@@ -1,12 +1,48 @@
--- An end of the clocked circuit is a timed card of octets that is prompt.
-use Rattle.laws_time.proofs.Vocabulary.{All-from_recursion, AllByRecursion, AreInRange, ArePrompt, Assign, Beat, Clocked, Config, EndsAreTimedCards, Expiry, IsInOrder, IsInTime, IsNoOctetsExpiry as IsNoExpiry, IsPrompt, IsTimedCard, Lengths, List, None, OctetEvent as Event, Option, Request, Some, Step, TimedEndpoint, TimedOctetCard, [], after, after_all, all_due, answered, ap, arith, asks}
-use Rattle.laws_time.proofs.Vocabulary.{at_moment, beat, card_of, comes_to, div-le_self, drop, due, endpoint, fall_due, falls, falls_due, first, first_due, fold, fresh, gone, happens, hears, is_before, length, obeyed, octet_at as at, octet_orders as orders_in, octets, option_map_or, refl, step_happens, subst, suc, sym, time, unwrap_or, with_expiry, without_first}
+-- An end of the clocked circuit: what each request and each expiry keeps is kept as it comes to its moment; and it is a timed card that is prompt.
+use Rattle.laws_time.proofs.Vocabulary.{All, All-from_recursion, All-head, All-tail, AllByRecursion, AreInRange, ArePrompt, Assign, Beat, Clocked, Config, EndsAreTimedCards, Expiry, IsInOrder, IsInTime, IsNoOctetsExpiry as IsNoExpiry, IsPrompt, IsTimedCard, Lengths, List, None, OctetEvent as Event, Option, Request, Some, Step, TimedEndpoint, TimedOctetCard, [], after, after_all}
+use Rattle.laws_time.proofs.Vocabulary.{answered, ap, arith, asks, at_moment, beat, card_of, comes_to, div-le_self, drop, due, endpoint, fall_due, falls, falls_due, first, first_due, fold, fresh, gone, happens, hears, is_before, length, obeyed, octet_at as at, octet_orders as orders_in, octets, option_map_or, refl, step_happens, subst, suc, sym, time, unwrap_or, with_expiry, without_first}
 use Rattle.laws_time.proofs.Vocabulary.{without_first_octet, zero, ℕ, ◌++◌, ◌+◌, ◌-◌, ◌/◌, ◌<◌, ◌∙◌, ◌∷◌, ◌≡◌, ◌≤◌}
-use Rattle.model_card.proofs.OfPorts.Steps.{config_after}
 use Rattle.model_card.specs.ports.Port as port
+use Rattle.model_card.proofs.OfPorts.Steps.{config_after}
 use Rattle.model_timed.specs.Timed.{after as next}
 use Rattle.laws_time.proofs.Moments.{now-stays, lengths-stay}
-use Rattle.laws_time.proofs.OfCircuit.Prompt.{long, all-obeyed, ordered-obeyed, due-obeyed, none-due, one-due, few-due, all-later, div-stays, many_due}
+use Rattle.lapd_clock.specs.Timer.{Timer}
+pub use Rattle.model_timed.proofs.Orders.{all-run as all-obeyed, in-order as ordered-obeyed}
+use Rattle.laws_time.proofs.Vocabulary.{div-le_of_le-mul, duration, le-div, mul-div-le}
+use Rattle.laws_time.proofs.TimedCards.{without-here, come_by, counted, by-orders, first-counts, none-come, none-counted, later-none, same-length}
+use Rattle.std.proofs.lemmas.List.Sums.{count_by-le-length}
+
+pub long : (ls : Lengths) → AreInRange ls → (timer : Timer) → 1 ≤ duration ls timer
+long ls h1z timer = grind arith
+
+-- From one beat to the next the moment stays, or is the next one.
+pub div-stays : (n rate : ℕ) → 1 ≤ rate → (n / rate ≤ (n + 1) / rate) × ((n + 1) / rate ≤ n / rate + 1)
+div-stays n rate some = grind (arith, mul-div-le, le-div, div-le_of_le-mul)
+
+abbrev pub at_time : ℕ → TimedEndpoint → TimedEndpoint
+at_time moment s = record s { clock = at_moment moment s.clock }
+
+-- What each thing keeps, a list of them keeps.
+pub fold-keeps : {A B : Type 0} (f : B → A → B) (Q : A → Type 0) (P : B → Type 0) → ((x : A) (b : B) → Q x → P b → P (f b x)) → (xs : List A) → All Q xs → (b : B) → P b → P (fold f b xs)
+fold-keeps f Q P keeps [] all b h = h
+fold-keeps f Q P keeps (x ∷ xs) all b h = fold-keeps f Q P keeps xs (All-tail Q x xs all) (f b x) (keeps x b (All-head Q x xs all) h)
+
+-- What falls due now, if anything does.
+fell-keeps : (P : TimedEndpoint → Type 0) → ((x : Expiry) (a : TimedEndpoint) → due a.clock ≡ Some x → P a → P (falls a x)) → (a : TimedEndpoint) (o : Option Expiry) → due a.clock ≡ o → P a → P (option_map_or (falls a) o a)
+fell-keeps h keeps a h' is h'' = grind arith
+
+-- And all that falls due.
+pub falls-keep : (P : TimedEndpoint → Type 0) → ((x : Expiry) (a : TimedEndpoint) → due a.clock ≡ Some x → P a → P (falls a x)) → (n : ℕ) (a : TimedEndpoint) → P a → P (fall_due n a)
+unfolding fall_due
+falls-keep P keeps zero a h = h
+falls-keep P keeps (suc n) a h = falls-keep P keeps n (option_map_or (falls a) (due a.clock) a) (fell-keeps P keeps a (due a.clock) refl h)
+
+-- The moment comes, layer 3 asks, and what is due falls due.
+pub comes-keep : (P : TimedEndpoint → Type 0) (Q : Request → Type 0) → ((r : Request) (a : TimedEndpoint) → Q r → P a → P (asks a r)) → ((x : Expiry) (a : TimedEndpoint) → due a.clock ≡ Some x → P a → P (falls a x))
+    → (moment : ℕ) (rs : List Request) → All Q rs → (a : TimedEndpoint) → P (at_time moment a) → P (comes_to moment rs a)
+comes-keep P Q ask fall moment rs all a h = let b = fold asks (at_time moment a) rs in falls-keep P fall (length b.clock.running) b (fold-keeps asks Q P ask rs all (at_time moment a) h)
+
+-- ---- an end of the clocked circuit is a timed card of octets that is prompt
 
 -- Steps that are prompt lead from one timed card to another.
 pub record Leads (t u : TimedOctetCard) : Type 0 where
@@ -64,9 +100,6 @@ pub rest-of : (P : Expiry → Type 0) (xs : List Expiry) → AllByRecursion P xs
 rest-of P [] all = all
 rest-of P (x ∷ xs) all = all.1
 
-rest-in-order : (xs : List Expiry) → IsInOrder is_before xs → IsInOrder is_before (drop 1 xs)
-rest-in-order h h' = grind arith
-
 pub first-of : (P : Expiry → Type 0) (xs : List Expiry) (now : ℕ) (x : Expiry) → AllByRecursion P xs → first_due xs now ≡ Some x → P x
 first-of h h' now x all is = grind arith
 
@@ -77,7 +110,7 @@ pub stands-without : (s : TimedEndpoint) → Stands s → Stands (without s)
 stands-without s h = record {
   within = h.within;
   ranged = h.ranged;
-  in_order = rest-in-order s.clock.running h.in_order;
+  in_order = without-here s.clock.running h.in_order;
   here = rest-of (λ x. x.line ≡ s.at.line) s.clock.running h.here;
   timely = rest-of (λ x. s.clock.now ≤ x.moment) s.clock.running h.timely;
 }
@@ -90,41 +123,40 @@ pub record Fell (s u : TimedEndpoint) (most : ℕ) : Type 0 where
   pub stands : Stands u
   pub leads : Leads (card_of s) (card_of u)
   pub now : u.clock.now ≡ s.clock.now
-  pub due : many_due s.clock.now u.clock.running ≤ most
+  pub due : counted s.clock.now u.clock.running ≤ most
 
-falls-once : (s : TimedEndpoint) → Stands s → Fell s (fallen s) (many_due s.clock.now s.clock.running - 1)
+falls-once : (s : TimedEndpoint) → Stands s → Fell s (fallen s) (counted s.clock.now s.clock.running - 1)
 falls-once s h = go (due s.clock) refl
   where
     its-step : (o : Option Expiry) → due s.clock ≡ o → Leads (card_of s) (option_map_or (with_expiry octets (card_of s)) o (card_of s))
     its-step o is = subst (λ o. Leads (card_of s) (option_map_or (with_expiry octets (card_of s)) o (card_of s))) is (leads-one falls_due (card_of s) tt)
 
-    go : (o : Option Expiry) → due s.clock ≡ o → Fell s (option_map_or (falls s) o s) (many_due s.clock.now s.clock.running - 1)
-    go None is = record {
-      stands = h;
-      leads = leads-none (card_of s);
-      now = refl;
-      due = omega (arith, none-due s.clock.now s.clock.running h.in_order is);
-    }
+    go : (o : Option Expiry) → due s.clock ≡ o → Fell s (option_map_or (falls s) o s) (counted s.clock.now s.clock.running - 1)
+    go None is = record { stands = h; leads = leads-none (card_of s); now = refl; due = omega (arith, later-none s.clock.running s.clock.now (none-come s.clock.running s.clock.now h.in_order is)) }
     go (Some x) is =
-        let own : x.line ≡ s.at.line = first-of (λ x. x.line ≡ s.at.line) s.clock.running s.clock.now x h.here is in
-        let e = port.expiry x.timer in let orders = orders_in (answered e s.at) in
+        let own : x.line ≡ s.at.line = first-of (λ x. x.line ≡ s.at.line) s.clock.running s.clock.now x h.here is in let e = port.expiry x.timer in let orders = orders_in (answered e s.at) in
         record {
           stands = stands-on e (without s) (stands-without s h);
           leads = subst (Leads (card_of s)) (ap (λ line. with_expiry octets (card_of s) (record x { line = line })) own) (its-step (Some x) is);
           now = now-stays s.at.line (without_first s.clock) orders;
-          due = omega (arith, due-obeyed s.at.line (without_first s.clock) orders h.ranged, one-due s.clock.now s.clock.running x is);
+          due = omega (arith, by-orders s.at.line (without_first s.clock) orders (λ timer. subst (λ n. 1 ≤ n) (same-length s.clock.lengths timer) (long s.clock.lengths h.ranged timer)), first-counts s.clock.running s.clock.now x is);
         }
 
-fell-both : (s u v : TimedEndpoint) (most few : ℕ) → Fell s u most → (many_due u.clock.now u.clock.running ≤ most → Fell u v few) → Fell s v few
-fell-both s u v most few h g = grind (arith, many_due, leads-both, card_of)
+fell-both : (s u v : TimedEndpoint) (most few : ℕ) → Fell s u most → (counted u.clock.now u.clock.running ≤ most → Fell u v few) → Fell s v few
+fell-both s u v most few h g =
+    let rest = g (subst (λ n. counted n u.clock.running ≤ most) (sym h.now) h.due) in
+    record {
+      stands = rest.stands;
+      leads = leads-both (card_of s) (card_of u) (card_of v) h.leads rest.leads;
+      now = rest.now ∙ h.now;
+      due = subst (λ n. counted n v.clock.running ≤ few) h.now rest.due;
+    }
 
-pub all-fall : (n : ℕ) (s : TimedEndpoint) → Stands s → many_due s.clock.now s.clock.running ≤ n → Fell s (fall_due n s) 0
+pub all-fall : (n : ℕ) (s : TimedEndpoint) → Stands s → counted s.clock.now s.clock.running ≤ n → Fell s (fall_due n s) 0
 unfolding fall_due
 all-fall zero s h few = record { stands = h; leads = leads-none (card_of s); now = refl; due = few }
 all-fall (suc n) s h few =
-    let once = falls-once s h in
-    fell-both s (fallen s) (fall_due n (fallen s)) (many_due s.clock.now s.clock.running - 1) 0 once
-    (λ less. all-fall n (fallen s) once.stands (omega (arith, less, few)))
+    let once = falls-once s h in fell-both s (fallen s) (fall_due n (fallen s)) (counted s.clock.now s.clock.running - 1) 0 once (λ less. all-fall n (fallen s) once.stands (omega (arith, less, few)))
 
 -- Layer 3 asks.
 pub record Came (s u : TimedEndpoint) : Type 0 where
@@ -135,8 +167,7 @@ pub record Came (s u : TimedEndpoint) : Type 0 where
 all-asked : (rs : List Request) (s : TimedEndpoint) → Stands s → Came s (fold asks s rs)
 all-asked [] s h = record { stands = h; leads = leads-none (card_of s); now = refl }
 all-asked (r ∷ rs) s h =
-    let u = happens (port.request r) s in
-    let rest = all-asked rs u (stands-on (port.request r) s h) in
+    let u = happens (port.request r) s in let rest = all-asked rs u (stands-on (port.request r) s h) in
     record {
       stands = rest.stands;
       leads = leads-both (card_of s) (card_of u) (card_of (fold asks u rs)) (leads-on (port.request r) s h tt) rest.leads;
@@ -151,9 +182,6 @@ pub record Rests (s : TimedEndpoint) : Type 0 where
 pub weaker : (P Q : Expiry → Type 0) → ((x : Expiry) → P x → Q x) → (xs : List Expiry) → AllByRecursion P xs → AllByRecursion Q xs
 weaker P Q more [] all = tt
 weaker P Q more (x ∷ xs) all = (more x all.0, weaker P Q more xs all.1)
-
-abbrev pub at_time : ℕ → TimedEndpoint → TimedEndpoint
-at_time moment s = record s { clock = at_moment moment s.clock }
 
 pub time-comes : (moment : ℕ) (s : TimedEndpoint) → Rests s → s.clock.now ≤ moment → moment ≤ s.clock.now + 1 → Stands (at_time moment s) × Leads (card_of s) (card_of (at_time moment s))
 time-comes moment s h low high =
@@ -170,11 +198,14 @@ pub record Comes (moment : ℕ) (s u : TimedEndpoint) : Type 0 where
 
 pub comes : (moment : ℕ) (rs : List Request) (s : TimedEndpoint) → Rests s → s.clock.now ≤ moment → moment ≤ s.clock.now + 1 → Comes moment s (comes_to moment rs s)
 comes moment rs s h low high =
-    let t = at_time moment s in let u = fold asks t rs in
-    let first = time-comes moment s h low high in
-    let asked = all-asked rs t first.0 in
-    let fell = all-fall (length u.clock.running) u asked.stands (few-due u.clock.now u.clock.running) in
-    grind (arith, all-later, all_due, many_due, leads-both, card_of)
+    let t = at_time moment s in let u = fold asks t rs in let first = time-comes moment s h low high in let asked = all-asked rs t first.0 in
+    let fell = all-fall (length u.clock.running) u asked.stands (count_by-le-length (come_by u.clock.now) u.clock.running) in
+    let v = comes_to moment rs s in let later = none-counted v.clock.running u.clock.now fell.stands.in_order fell.due in
+    record {
+      rests = record { stands = fell.stands; later = subst (λ n. AllByRecursion (λ x. n < x.moment) v.clock.running) (sym fell.now) later };
+      leads = leads-both (card_of s) (card_of t) (card_of v) first.1 (leads-both (card_of t) (card_of u) (card_of v) asked.leads fell.leads);
+      now = fell.now ∙ asked.now;
+    }
 
 -- Something happens at an end at which nothing is due.
 pub rests-on : (e : port.Event) (s : TimedEndpoint) → Rests s → Rests (happens e s)
@@ -215,11 +246,9 @@ next-moment rate beats h1z = grind (arith, div-stays)
 
 pub one-beat : (rate : ℕ) → 1 ≤ rate → (t u : TimedOctetCard) (b : Beat) (w : Clocked) → Both rate t u w → Both rate t u (beat rate w b)
 one-beat rate some t u b w h =
-    let moment = w.beats / rate in
-    let next = next-moment rate w.beats some in
+    let moment = w.beats / rate in let next = next-moment rate w.beats some in
     let near = comes moment b.near_asks w.near h.near (subst (λ n. n ≤ moment) (sym h.near_now) next.0) (subst (λ n. moment ≤ n + 1) (sym h.near_now) next.1) in
-    let far = comes moment b.far_asks w.far h.far (subst (λ n. n ≤ moment) (sym h.far_now) next.0) (subst (λ n. moment ≤ n + 1) (sym h.far_now) next.1) in
-    let v = gone rate b w in
+    let far = comes moment b.far_asks w.far h.far (subst (λ n. n ≤ moment) (sym h.far_now) next.0) (subst (λ n. moment ≤ n + 1) (sym h.far_now) next.1) in let v = gone rate b w in
     let near2 = heard-then moment b.near_noise v.far.at.way w.near v.near (happens-then moment port.pull w.near (comes_to moment b.near_asks w.near) tt near) in
     let far2 = heard-then moment b.far_noise v.near.at.way w.far v.far (happens-then moment port.pull w.far (comes_to moment b.far_asks w.far) tt far) in
     let same : w.beats + 1 - 1 ≡ w.beats = omega arith in
@@ -233,8 +262,7 @@ one-beat rate some t u b w h =
     }
 
 pub all-beats : (rate : ℕ) → 1 ≤ rate → (t u : TimedOctetCard) (bs : List Beat) (w : Clocked) → Both rate t u w → Both rate t u (after rate bs w)
-all-beats rate some t u [] w h = h
-all-beats rate some t u (b ∷ bs) w h = all-beats rate some t u bs (beat rate w b) (one-beat rate some t u b w h)
+all-beats rate some t u bs w h = fold-keeps (beat rate) (λ b. Unit {0}) (Both rate t u) (λ b w is. one-beat rate some t u b w) bs (λ k d lt. tt) w h
 
 -- From the start.
 begins : (c : Config) (line tei way : ℕ) (lengths : Lengths) → line < c.lines → AreInRange lengths → Comes 0 (first c line lengths way) (endpoint c line lengths way tei)
@@ -255,8 +283,7 @@ timed c lengths s h = (h.steps, h.prompt, h.leads)
 pub both-begin : (c d : Config) (line other tei way rate : ℕ) (lengths others : Lengths) → line < c.lines → other < d.lines → AreInRange lengths → AreInRange others
     → Both rate (fresh c lengths) (fresh d others) (record { near = endpoint c line lengths way tei; far = endpoint d other others way tei; beats = 0 })
 both-begin c d line other tei way rate lengths others within within_far ranged ranged_far =
-    let near = begins c line tei way lengths within ranged in let far = begins d other tei way others within_far ranged_far in
-    grind (arith, none-yet)
+    let near = begins c line tei way lengths within ranged in let far = begins d other tei way others within_far ranged_far in grind (arith, none-yet)
 
 pub ends-are-timed-cards : EndsAreTimedCards
 ends-are-timed-cards c d line other tei way rate lengths others bs within within_far ranged ranged_far some =

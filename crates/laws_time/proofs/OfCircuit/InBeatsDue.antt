@@ -1,12 +1,9 @@
 -- What holds of each timer that is started holds of each that runs. So none falls due in the first milliseconds.
-use Rattle.laws_time.proofs.Vocabulary.{AllByRecursion, Assign, Beat, Clocked, Expiry, IsUndue, Lengths, Line, List, None, NoneFallsDue, Option, Request, Some, TimedEndpoint, [], after, answered, arith, asked, asks, beat, begins, comes_to, div-lt_iff_lt-mul, due, duration, first, first_due, fold, happens, hears, leb-true, length, octet_orders as orders_in, refl}
+use Rattle.laws_time.proofs.Vocabulary.{AllByRecursion, Assign, Beat, Clocked, Expiry, IsUndue, Lengths, Line, List, NoneFallsDue, Option, Request, Some, TimedEndpoint, [], after, answered, arith, asked, asks, beat, begins, comes_to, div-lt_iff_lt-mul, due, duration, first, first_due, fold, happens, hears, leb-true, length, octet_orders as orders_in, refl, by-option}
 use Rattle.laws_time.proofs.Vocabulary.{subst, sym, unwrap_or, without_first, ℕ, ◌*◌, ◌+◌, ◌/◌, ◌<◌, ◌∙◌, ◌∷◌, ◌≡◌, ◌≤◌}
 use Rattle.lapd_clock.specs.Timer.{Timer}
 use Rattle.model_card.specs.ports.Port as port
-use Rattle.laws_time.proofs.Moments.{now-stays, lengths-stay}
-use Rattle.laws_time.proofs.OfCircuit.Ends.{at_time, rest-of, first-of, weaker}
-use Rattle.laws_time.proofs.OfCircuit.Prompt.{all-obeyed, div-stays}
-use Rattle.laws_time.proofs.OfCircuit.Keeping.{comes-keep, fold-keeps}
+use Rattle.laws_time.proofs.OfCircuit.Words.{all-obeyed, at_time, comes-keep, div-stays, first-of, fold-keeps, lengths-stay, now-stays, rest-of, weaker}
 
 -- What holds of each timer that runs, by the moment now and that at which it falls due: of each that is started from a moment on, and then as
 -- time goes on.
@@ -28,9 +25,7 @@ module _ (r : Rule) where
 
   pub keeps-event : (e : port.Event) (s : TimedEndpoint) → Keeps s → Keeps (happens e s)
   keeps-event e s h =
-      let orders = orders_in (answered e s.at) in
-      let now = s.clock.now in
-      let same = sym (now-stays s.at.line s.clock orders) in
+      let orders = orders_in (answered e s.at) in let now = s.clock.now in let same = sym (now-stays s.at.line s.clock orders) in
       record {
         running = subst (λ n. AllByRecursion (HoldsAt n) (happens e s).clock.running) same
             (all-obeyed (HoldsAt now) s.at.line s.clock orders (λ timer. subst (λ (ls : Lengths). r.holds now timer (now + duration ls timer)) (sym h.lengths) (r.starts now timer h.since)) h.running);
@@ -74,36 +69,29 @@ pub record AreOnTime (rate : ℕ) (w : Clocked) : Type 0 where
   pub far : w.far.clock.now ≤ w.beats / rate
 
 module _ (rate : ℕ) (some : 1 ≤ rate) where
-  pub on-time : (b : Beat) (w : Clocked) → AreOnTime rate (beat rate w b)
+  on-time : (b : Beat) (w : Clocked) → AreOnTime rate (beat rate w b)
   on-time b w = grind (arith, happens, comes_to, now-hears, now-pulled, now-comes, div-stays)
-
-  pub all-on-time : (bs : List Beat) (w : Clocked) → AreOnTime rate w → AreOnTime rate (after rate bs w)
-  all-on-time [] w h = h
-  all-on-time (b ∷ bs) w h = all-on-time bs (beat rate w b) (on-time b w)
 
   module _ (r q : Rule) where
     pub record AreKept (w : Clocked) : Type 0 where
+      pub on : AreOnTime rate w
       pub near : Keeps r w.near
       pub far : Keeps q w.far
 
-    pub kept-beat : (b : Beat) (w : Clocked) → AreOnTime rate w → AreKept w → AreKept (beat rate w b)
-    kept-beat b w on h =
-        let moment = w.beats / rate in
-        let n = happens port.pull (comes_to moment b.near_asks w.near) in
-        let f = happens port.pull (comes_to moment b.far_asks w.far) in
-        let x = keeps-hears r b.near_noise f.at.way n (keeps-event r port.pull (comes_to moment b.near_asks w.near) (keeps-comes r moment b.near_asks w.near on.near h.near)) in
-        let y = keeps-hears q b.far_noise n.at.way f (keeps-event q port.pull (comes_to moment b.far_asks w.far) (keeps-comes q moment b.far_asks w.far on.far h.far)) in
-        record { near = record { running = x.running; lengths = x.lengths; since = x.since }; far = record { running = y.running; lengths = y.lengths; since = y.since } }
+    pub kept-beat : (b : Beat) (w : Clocked) → AreKept w → AreKept (beat rate w b)
+    kept-beat b w h =
+        let moment = w.beats / rate in let n = happens port.pull (comes_to moment b.near_asks w.near) in let f = happens port.pull (comes_to moment b.far_asks w.far) in
+        let x = keeps-hears r b.near_noise f.at.way n (keeps-event r port.pull (comes_to moment b.near_asks w.near) (keeps-comes r moment b.near_asks w.near h.on.near h.near)) in
+        let y = keeps-hears q b.far_noise n.at.way f (keeps-event q port.pull (comes_to moment b.far_asks w.far) (keeps-comes q moment b.far_asks w.far h.on.far h.far)) in
+        record { on = on-time b w; near = record { running = x.running; lengths = x.lengths; since = x.since }; far = record { running = y.running; lengths = y.lengths; since = y.since } }
 
-    pub all-kept : (bs : List Beat) (w : Clocked) → AreOnTime rate w → AreKept w → AreKept (after rate bs w)
-    all-kept [] w on h = h
-    all-kept (b ∷ bs) w on h = all-kept bs (beat rate w b) (on-time b w) (kept-beat b w on h)
+    pub all-kept : (bs : List Beat) (w : Clocked) → AreKept w → AreKept (after rate bs w)
+    all-kept bs w h = fold-keeps (beat rate) (λ b. Unit {0}) AreKept (λ b w is. kept-beat b w) bs (λ k d lt. tt) w h
 
 -- So it holds of the first that is due.
 pub first-keeps : (r : Rule) (moment : ℕ) (rs : List Request) (s : TimedEndpoint) → s.clock.now ≤ moment → Keeps r s → (x : Expiry) → due (asked moment rs s).clock ≡ Some x → r.holds moment x.timer x.moment
 first-keeps r moment rs s later h x is =
-    let a = fold asks (at_time moment s) rs in
-    let k = keeps-asks r rs (at_time moment s) (keeps-time r moment s later h) in
+    let a = fold asks (at_time moment s) rs in let k = keeps-asks r rs (at_time moment s) (keeps-time r moment s later h) in
     subst (λ n. r.holds n x.timer x.moment) (now-asked rs (at_time moment s)) (first-of (HoldsAt r a.clock.now) a.clock.running a.clock.now x k.running is)
 
 due-soon : (xs : List Expiry) (now : ℕ) (x : Expiry) → first_due xs now ≡ Some x → x.moment ≤ now
@@ -121,34 +109,30 @@ until t ls long = record { lengths = ls; from = 0; holds = λ now timer m. t ≤
 
 module _ (rate : ℕ) (some : 1 ≤ rate) (t : ℕ) where
   undue : (ls : Lengths) (long : Until t ls) (moment : ℕ) (rs : List Request) (s : TimedEndpoint) → moment < t → s.clock.now ≤ moment → Keeps (until t ls long) s → IsUndue moment rs s
-  undue ls long moment rs s low later h = go (due (asked moment rs s).clock) refl
-    where
-      go : (o : Option Expiry) → due (asked moment rs s).clock ≡ o → due (asked moment rs s).clock ≡ None
-      go None is = is
-      go (Some x) is =
-          let high : t ≤ x.moment = first-keeps (until t ls long) moment rs s later h x is in
-          let soon = due-soon (asked moment rs s).clock.running (asked moment rs s).clock.now x is in
-          let now = now-asked rs (at_time moment s) in absurd (omega (arith, low, high, soon, now))
+  undue ls long moment rs s low later h = by-option (due (asked moment rs s).clock) (λ is. is) (λ x is.
+      let high : t ≤ x.moment = first-keeps (until t ls long) moment rs s later h x is in let soon = due-soon (asked moment rs s).clock.running (asked moment rs s).clock.now x is in
+      let now = now-asked rs (at_time moment s) in absurd (omega (arith, low, high, soon, now)))
 
   module _ (ls ls_far : Lengths) (long : Until t ls) (long_far : Until t ls_far) where
-    all-undue : (bs : List Beat) (w : Clocked) → AreOnTime rate w → AreKept rate some (until t ls long) (until t ls_far long_far) w → w.beats + length bs ≤ t * rate → NoneFallsDue rate bs w
+    all-undue : (bs : List Beat) (w : Clocked) → AreKept rate some (until t ls long) (until t ls_far long_far) w → w.beats + length bs ≤ t * rate → NoneFallsDue rate bs w
     unfolding NoneFallsDue
-    all-undue [] w on h few = tt
-    all-undue (b ∷ bs) w on h few =
+    all-undue [] w h few = tt
+    all-undue (b ∷ bs) w h few =
         let before : w.beats / rate < t = early rate some t w.beats (omega (arith, few)) in (
-          undue ls long (w.beats / rate) b.near_asks w.near before on.near h.near,
-          undue ls_far long_far (w.beats / rate) b.far_asks w.far before on.far h.far,
-          all-undue bs (beat rate w b) (on-time rate some b w) (kept-beat rate some (until t ls long) (until t ls_far long_far) b w on h) (omega (arith, few)),
+          undue ls long (w.beats / rate) b.near_asks w.near before h.on.near h.near,
+          undue ls_far long_far (w.beats / rate) b.far_asks w.far before h.on.far h.far,
+          all-undue bs (beat rate w b) (kept-beat rate some (until t ls long) (until t ls_far long_far) b w h) (omega (arith, few)),
         )
 
 -- ---- as the circuit begins
 
-pub begins-on-time : (l : Line) → AreOnTime l.rate (begins l)
+begins-on-time : (l : Line) → AreOnTime l.rate (begins l)
 begins-on-time l = grind (arith, now-stays, first, orders_in, answered)
 
 -- What holds of each timer that is started holds from the start on.
 pub begins-kept : (l : Line) (some : 1 ≤ l.rate) (r q : Rule) → r.lengths ≡ l.lengths → q.lengths ≡ l.far_lengths → r.from ≡ 0 → q.from ≡ 0 → AreKept l.rate some r q (begins l)
 begins-kept l some r q here there none none_far = record {
+  on = begins-on-time l;
   near = keeps-event r (port.request (Assign l.tei)) (first l.near l.near_line l.lengths l.way) (record { running = tt; lengths = sym here; since = omega (arith, none) });
   far = keeps-event q (port.request (Assign l.tei)) (first l.far l.far_line l.far_lengths l.way) (record { running = tt; lengths = sym there; since = omega (arith, none_far) });
 }
@@ -156,4 +140,4 @@ begins-kept l some r q here there none none_far = record {
 -- In the first milliseconds none falls due.
 pub none-at-first : (l : Line) (bs : List Beat) (t : ℕ) → 1 ≤ l.rate → Until t l.lengths → Until t l.far_lengths → length bs ≤ t * l.rate → NoneFallsDue l.rate bs (begins l)
 none-at-first l bs t some near far few =
-    all-undue l.rate some t l.lengths l.far_lengths near far bs (begins l) (begins-on-time l) (begins-kept l some (until t l.lengths near) (until t l.far_lengths far) refl refl refl refl) (omega (arith, few))
+    all-undue l.rate some t l.lengths l.far_lengths near far bs (begins l) (begins-kept l some (until t l.lengths near) (until t l.far_lengths far) refl refl refl refl) (omega (arith, few))

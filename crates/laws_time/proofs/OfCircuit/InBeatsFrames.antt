@@ -1,17 +1,20 @@
 -- Without noise each frame that was put on the line is received so many beats later.
-use Rattle.laws_time.proofs.Vocabulary.{All, AreHeardWhole, AreShort, Beat, Bool, CanCall, Clocked, Config, FramesComeInBeats, HasReceived, IsClean, IsInRange, IsTalk, Item, Line, List, OctetEndpoint, Port, [], after, after_flag, all-left, ap, append-nil, append_assoc, arith, begins, bits, bits-append, cases_lt, flag, flat_map, flat_map-append, framed, frames_among, frames_among-append}
-use Rattle.laws_time.proofs.Vocabulary.{heard-beyond, heard_in, hears-append, inl, inr, item_text, left_of, length, length-append, length-bits, length-replicate, line_text, longest, longest_text, nil_from_length, port_of, replicate, reverse_aux, room_for, subst, sym, ℕ, ◌*◌, ◌++◌, ◌+◌, ◌<◌, ◌∙◌, ◌∷◌, ◌≡◌, ◌≤◌, ◌⊎◌}
+use Rattle.laws_time.proofs.Vocabulary.{All, All-head, All-tail, All-weaker, AreHeardWhole, AreShort, Assign, Beat, Bool, CanCall, Clocked, Config, Establish, FrameEndpoint, FramesComeInBeats, HasReceived, IsClean, IsInRange, IsStill, IsTalk, Item, Line, LineTold, List, OctetEndpoint, Port, Request, Service, Wire, [], after, after_flag, all-left, ap, append-nil, append_assoc, arith, begins, bits}
+use Rattle.laws_time.proofs.Vocabulary.{bits-append, both_call, calls-come-through, confirmed, data_told, false, flag, flat_map, flat_map-append, framed, frames_among, frames_among-append, heard_in, hears-append, indicated, item_text, left_of, length, length-append, length-bits, length-replicate, line_text, longest, longest_text, map, nil_from_length, port_of, refl, replicate, reverse_aux}
+use Rattle.laws_time.proofs.Vocabulary.{room_for, subst, sym, wire_doing_all, wire_turns, ℕ, ◌*◌, ◌++◌, ◌+◌, ◌<◌, ◌||◌, ◌∙◌, ◌∷◌, ◌≡◌, ◌≤◌}
 use Rattle.model_bits.specs.Stream as stream
+use Rattle.model_line.specs.Event as line
+use Rattle.laws_wire.specs.Call as call
+use Rattle.laws_wire.specs.Wire as wire
 use Rattle.model_bits.proofs.RoundTripPlaces.{hears}
 use Rattle.laws_time.proofs.OfCircuit.AgainLaw.{Since, since-first, since-all, noisy-long}
 use Rattle.laws_time.proofs.OfCircuit.AgainRan.{EndAt, fine-at, Both, both-begin, both-all, Grown, grown-all, beats-then}
 use Rattle.laws_time.proofs.OfCircuit.AgainText.{all-whole, whole-left, items-heard}
-use Rattle.laws_time.proofs.OfCircuit.AnsweredBits.{longer-begins}
-use Rattle.laws_time.proofs.OfCircuit.AnsweredClear.{heard-after, flags-before, begins-so, part-of, flags-silent}
-use Rattle.laws_time.proofs.OfCircuit.AnsweredPlace.{Comes}
-use Rattle.laws_time.proofs.OfCircuit.InBeatsShort.{all-small, frames-small, left-few}
+use Rattle.laws_time.proofs.OfCircuit.AnsweredBits.{longer-begins, Comes as Comes_here}
+use Rattle.laws_time.proofs.OfCircuit.ArrivWay.{heard-after, flags-before, begins-so}
+use Rattle.laws_time.proofs.OfCircuit.AgainExact.{all-small, frames-small, left-few}
 use Rattle.laws_time.proofs.OfCircuit.Joined.{Joined, put_at}
-use Rattle.laws_time.proofs.OfCircuit.Sender.{Fine, out}
+use Rattle.laws_time.proofs.OfCircuit.Sender.{Fine}
 
 -- ---- of one port, which puts and gives more, so much is received
 
@@ -48,7 +51,7 @@ module _ (n201 m n : ℕ) (p q : Port) (fine_p : Fine n201 p) (fine : Fine n201 
 
 -- ---- from one end of the clocked circuit to the other, if there was no noise from the start on
 
-module _ (c d : Config) (ranged : IsInRange c) (way e : ℕ) (u ru : OctetEndpoint) (hu : EndAt c way e u) (gu : EndAt d way e ru) (x : Comes way 0 (port_of u) u.way (port_of ru)) where
+module _ (c d : Config) (ranged : IsInRange c) (way e : ℕ) (u ru : OctetEndpoint) (hu : EndAt c way e u) (gu : EndAt d way e ru) (x : Comes_here way 0 (port_of u) u.way (port_of ru)) where
   -- What was sent was received, or is in transit.
   pub all-sent : replicate way 0x7E ++ (port_of u).given ≡ (port_of ru).received ++ u.way
   all-sent =
@@ -66,59 +69,32 @@ module _ (c d : Config) (ranged : IsInRange c) (way e : ℕ) (u ru : OctetEndpoi
   given : way ≤ length (port_of ru).received → (given : List ℕ) × ((port_of ru).received ≡ replicate way 0x7E ++ given) × ((port_of u).given ≡ given ++ u.way)
   given enough = let flags = flags-long in longer-begins (replicate way 0x7E) (port_of u).given (port_of ru).received u.way all-sent (omega (arith, enough, flags))
 
-  heard-given : (x : List ℕ) → (port_of u).given ≡ x ++ u.way → heard_in c.n201 (replicate way 0x7E ++ x) ≡ heard_in c.n201 x
-  heard-given x is = flags-before c.n201 way x (begins-so c.n201 (port_of u).given x u.way (left_of (port_of u)) (flat_map item_text (port_of u).items) (sym fine.sound.text.text) is)
-
-  -- What is heard stands in what was put.
-  pub stands-there : (rest : List stream.Event) × (framed (frames_among (port_of u).items) ≡ heard_in c.n201 (port_of ru).received ++ rest)
-  stands-there = go (cases_lt (length (port_of ru).received) way)
-    where
-      go : (length (port_of ru).received < way) ⊎ (way ≤ length (port_of ru).received) → (rest : List stream.Event) × (framed (frames_among (port_of u).items) ≡ heard_in c.n201 (port_of ru).received ++ rest)
-      go (inl few) =
-          let received = (port_of ru).received in let flags = flags-long in
-          let x = longer-begins received u.way (replicate way 0x7E) (port_of u).given (sym all-sent) (omega (arith, few, flags)) in
-          let silent = ap (heard_in c.n201) (part-of way received x.0 x.1) ∙ flags-silent c.n201 (length received) in
-          (framed (frames_among (port_of u).items), ap (λ es. es ++ framed (frames_among (port_of u).items)) (sym silent))
-      go (inr many) =
-          let g = given many in
-          let o = out c.n201 (port_of u) fine in let beyond = heard-beyond c.n201 g.0 u.way in let H = heard_in c.n201 g.0 in (
-            beyond.0 ++ framed o.on_its_way,
-            o.heard ∙ ap (λ os. heard_in c.n201 os ++ framed o.on_its_way) g.2 ∙ ap (λ es. es ++ framed o.on_its_way) beyond.1 ∙ append_assoc H beyond.0 (framed o.on_its_way)
-                ∙ ap (λ es. es ++ (beyond.0 ++ framed o.on_its_way)) (sym (ap (heard_in c.n201) g.1 ∙ heard-given g.0 g.2)),
-          )
-
-  -- And all that was put so long ago is heard.
+  -- All that was put so long ago is heard.
   module _ (m n j : ℕ) (w : OctetEndpoint) (hw : EndAt c way n w) (g : Grown j (port_of w) (port_of u)) (enough : way + (n + longest m) ≤ e) (small : All (λ octets. length octets ≤ m + 4) (frames_among (port_of w).items)) where
     pub received-whole : (more : List stream.Event) × (heard_in c.n201 (port_of ru).received ≡ framed (frames_among (port_of w).items) ++ more)
     received-whole =
-        let fine_w = fine-at c ranged way n w hw in let all = gu.received in
-        let x = given (omega (arith, all, enough)) in
+        let fine_w = fine-at c ranged way n w hw in let all = gu.received in let x = given (omega (arith, all, enough)) in
         let flags = flags-long in let long = ap length x.1 ∙ length-append (replicate way 0x7E) x.0 in let given_w = hw.given in
         let h = heard-in-time c.n201 m j (port_of w) (port_of u) fine_w fine g x.0 u.way x.2 (left-few m (port_of w) fine_w.on.cut (all-small m (port_of w).items small))
         (omega (arith, all, flags, long, given_w, enough)) in
-        (h.0, ap (heard_in c.n201) x.1 ∙ heard-given x.0 x.2 ∙ h.1)
+        (h.0, ap (heard_in c.n201) x.1 ∙ (flags-before c.n201 way x.0 (begins-so c.n201 (port_of u).given x.0 u.way (left_of (port_of u)) (flat_map item_text (port_of u).items) (sym fine.sound.text.text) x.2)) ∙ h.1)
 
 module _ (l : Line) (can : CanCall l.near l.near_line l.far l.far_line l.tei) where
-  abbrev size : l.far.n201 ≡ l.near.n201
-  size = sym can.opposite.1
-
   -- From any time on.
   pub come-from : (m : ℕ) (bs : List Beat) → All (IsTalk l) bs → All IsClean bs → (w : Clocked) → Since l can 0 w → longest m + l.way ≤ length bs → AreShort m w.near → AreShort m w.far
       → let u = after l.rate bs w in HasReceived l w.near u.far × HasReceived l w.far u.near
   come-from m bs talk is_clean w at_w enough small small_far =
-      let u = after l.rate bs w in
-      let at_u = since-all l can 0 bs talk is_clean w at_w in
-      let g = grown-all l can bs talk w at_w.both in
+      let u = after l.rate bs w in let at_u = since-all l can 0 bs talk is_clean w at_w in let g = grown-all l can bs talk w at_w.both in
       let e = beats-then l.rate bs w in let long : l.way + (w.beats + longest m) ≤ u.beats = omega (arith, e, enough) in
       let there = received-whole l.near l.far can.near.0 l.way u.beats u.near.at u.far.at at_u.both.near at_u.both.far at_u.there m w.beats (length bs) w.near.at at_w.both.near g.near long small in
       let back = received-whole l.far l.near can.far.0 l.way u.beats u.far.at u.near.at at_u.both.far at_u.both.near at_u.back m w.beats (length bs) w.far.at at_w.both.far g.far long small_far in
-      (there, (back.0, ap (λ n. heard_in n (port_of u.near.at).received) (sym size) ∙ back.1))
+      (there, (back.0, ap (λ n. heard_in n (port_of u.near.at).received) (sym (sym can.opposite.1)) ∙ back.1))
 
   -- Frames have as many octets as N201 says at most.
   pub short-always : (w : Clocked) → Both l can w → AreShort l.near.n201 w.near × AreShort l.near.n201 w.far
   short-always w h = (
     frames-small l.near.n201 (port_of w.near.at).items (fine-at l.near can.near.0 l.way w.beats w.near.at h.near).sound.sizes,
-    subst (λ n. AreShort n w.far) size (frames-small l.far.n201 (port_of w.far.at).items (fine-at l.far can.far.0 l.way w.beats w.far.at h.far).sound.sizes),
+    subst (λ n. AreShort n w.far) (sym can.opposite.1) (frames-small l.far.n201 (port_of w.far.at).items (fine-at l.far can.far.0 l.way w.beats w.far.at h.far).sound.sizes),
   )
 
   -- Those that were put by some time are as short as those that were put later.
@@ -172,3 +148,57 @@ module _ (l : Line) (can : CanCall l.near l.near_line l.far l.far_line l.tei) wh
 pub frames-come-in-beats : FramesComeInBeats
 frames-come-in-beats l b before bs m fit talk talk_bs clean_before is_clean enough small small_far =
     come-from l fit.call m bs talk_bs is_clean (after l.rate (b ∷ before) (begins l)) (since-begun l fit.call (b ∷ before) talk clean_before) enough small small_far
+
+-- ---- a call of frames, in which data alone is asked for once one end has asked for the establishment
+
+module _ (service : Service) (tei : ℕ) where
+  -- Once so many frames are to be sent and received, and two for each content more, all is told: to the near end this of what the far end
+  -- was granted, and so to the far end.
+  pub record Comes (most : ℕ) (near_due far_due : List (List ℕ) → List LineTold) (first : Wire) (es : List wire.StepAt) : Type 0 where
+    pub turns : wire_turns es first + 4 * (length first.near.granted + length first.far.granted)
+        ≤ 2 * most + 4 * (length (wire_doing_all es first).near.granted + length (wire_doing_all es first).far.granted)
+    pub near_all : IsStill (wire_doing_all es first) → (wire_doing_all es first).near.told ≡ near_due (wire_doing_all es first).far.granted
+    pub far_all : IsStill (wire_doing_all es first) → (wire_doing_all es first).far.told ≡ far_due (wire_doing_all es first).near.granted
+
+  abbrev pub Due : LineTold → List (List ℕ) → List LineTold
+  Due first granted = first ∷ map (data_told service tei) granted
+
+  abbrev Talks : wire.StepAt → Type 0
+  Talks x = call.IsTalk service tei x
+
+  one-call : (x : wire.StepAt) → Talks x → call.IsCall service tei x
+  one-call other is = grind arith
+
+  pub are-calls : (es : List wire.StepAt) → All Talks es → All (call.IsCall service tei) es
+  are-calls = All-weaker Talks (call.IsCall service tei) one-call
+
+  one-none : (x : wire.StepAt) → Talks x → (w : wire.Wire) → call.calls_back x w ≡ false
+  one-none x h1z w = grind arith
+
+  pub none-call : (es : List wire.StepAt) → All Talks es → (w : wire.Wire) → call.both_call es w ≡ false
+  unfolding both_call
+  none-call [] all w = refl
+  none-call (e ∷ es) all w = let first = one-none e (All-head Talks e es all) w in let rest = none-call es (All-tail Talks e es all) (wire.doing e w) in (λ i. first i || rest i)
+
+  none-given : (a : line.Answer) → wire.unless_refused a [] ≡ []
+  none-given a = grind arith
+
+  grants-none : (r : Request) → wire.contents_requested r ≡ [] → (s : FrameEndpoint) → (wire.happens (line.request r) s).granted ≡ s.granted
+  grants-none r none s = grind (arith, none-given, append-nil)
+
+  module _ (c d : Config) (line other : ℕ) (can : CanCall c line d other tei) where
+    abbrev starts : wire.Wire
+    starts = call.calling service tei c line d other
+
+    pub near-none : (call.calling service tei c line d other).near.granted ≡ []
+    near-none = grants-none (Establish service tei) refl (call.assigned c line tei) ∙ grants-none (Assign tei) refl (call.endpoint c line)
+
+    pub far-none : (call.calling service tei c line d other).far.granted ≡ []
+    far-none = grants-none (Assign tei) refl (call.endpoint d other)
+
+    pub call-comes : (es : List wire.StepAt) → All Talks es → Comes 2 (Due (confirmed service tei)) (Due (indicated service tei)) (call.calling service tei c line d other) es
+    call-comes es all =
+        let came : call.ComesThrough service tei (wire_turns es starts) false (wire_doing_all es starts) =
+        subst (λ b. call.ComesThrough service tei (wire_turns es starts) b (wire_doing_all es starts)) (none-call es all starts) (calls-come-through service c d line other tei es can (are-calls es all)) in
+        let turns = came.turns in let none = ap length near-none in let none_far = ap length far-none in
+        record { turns = omega (arith, turns, none, none_far); near_all = came.near.1; far_all = came.far.1 }

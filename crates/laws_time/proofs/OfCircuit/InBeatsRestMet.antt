@@ -1,5 +1,5 @@
 -- A worked link is at rest, and T203 runs on: so after 72 beats more all is told that is granted then. And its SABME comes in nine beats.
-use Rattle.laws_time.proofs.Vocabulary.{All, All-cons, All-nil, AreInRange, AreOpposite, AreShort, AsksData, Beat, Begins, Call, Clocked, Config, Establish, Expiry, FrameEndpoint as Endpoint, HasReceived, IsAtRest, IsCalmSince, IsClean, IsOfLink, IsSoundCard as IsSound, IsTalk, IsToldSince, Item, List, RunsOn, Some, TimedEndpoint, [], after, ap, arith, as_frames, begins, calls, clean, config}
+use Rattle.laws_time.proofs.Vocabulary.{All, All-cons, All-nil, AreInRange, AreOpposite, AreShort, AsksData, Begins, Call, Clocked, Config, Establish, Expiry, FrameEndpoint as Endpoint, HasReceived, IsCalmSince, IsClean, IsOfLink, IsSoundCard as IsSound, IsTalk, IsToldSince, RunsOn, Some, TimedEndpoint, [], after, ap, arith, as_frames, begins, calls, clean, config}
 use Rattle.laws_time.proofs.Vocabulary.{control_of, distance_of, exchanged, fall_due, false, far_clock, frame, frames_among, frames_at, granted_in, header_of, idle, is_busy, its_line, length, line_of, longest, low_bits, map, most_turns, named, near_clock, network, own_frames_at, own_link, plain, port_of, reading as read_by, refl, replicate, rested, runs_until, seq, sound, state_of, subst, suc}
 use Rattle.laws_time.proofs.Vocabulary.{supervisory_of, sym, unnumbered_of, user, zero, ℕ, ◌*◌, ◌++◌, ◌+◌, ◌-◌, ◌<◌, ◌∙◌, ◌∷◌, ◌≡◌, ◌≤◌}
 use Rattle.lapd_frame.specs.Reading.{reading}
@@ -10,7 +10,7 @@ use Rattle.model_bits.specs.Stream as stream
 use Rattle.laws_wire.specs.Facing.{Face, Speaks}
 use Rattle.laws_time.proofs.OfCircuit.InBeatsFrames.{frames-come-in-beats}
 use Rattle.laws_time.proofs.OfCircuit.AgainRan.{Both, both-all, both-begin}
-use Rattle.laws_time.proofs.OfCircuit.InBeatsMet.{can, sends, asks-one}
+use Rattle.laws_time.proofs.OfCircuit.InBeats.{can, sends, asks-one}
 use Rattle.laws_time.proofs.OfCircuit.Led.{plain-clean}
 use Rattle.laws_time.proofs.OfCircuit.Rested.{messages-come-in-time}
 
@@ -20,10 +20,7 @@ in-range = record { t200 = omega arith; t203 = omega arith; t201 = omega arith; 
 fit : Begins its_line
 fit = record { call = can; some = omega arith; lengths = (in-range, in-range) }
 
-abbrev rings : Beat
-rings = calls its_line plain
-
-rings-talk : IsTalk its_line rings
+rings-talk : IsTalk its_line (calls its_line plain)
 rings-talk = (All-cons (IsOfLink Call 0) (Establish Call 0) [] (refl, refl) (All-nil (IsOfLink Call 0)), All-nil (IsOfLink Call 0))
 
 plain-talk : (n : ℕ) → All (IsTalk its_line) (replicate n plain)
@@ -31,7 +28,7 @@ plain-talk zero = All-nil (IsTalk its_line)
 plain-talk (suc n) = All-cons (IsTalk its_line) plain (replicate n plain) (All-nil (IsOfLink Call 0), All-nil (IsOfLink Call 0)) (plain-talk n)
 
 ends : Both its_line can rested
-ends = both-all its_line can (rings ∷ replicate 19 plain) (All-cons (IsTalk its_line) rings (replicate 19 plain) rings-talk (plain-talk 19)) (begins its_line) (both-begin its_line can)
+ends = both-all its_line can ((calls its_line plain) ∷ replicate 19 plain) (All-cons (IsTalk its_line) (calls its_line plain) (replicate 19 plain) rings-talk (plain-talk 19)) (begins its_line) (both-begin its_line can)
 
 -- What is seen at the two ends.
 record AreSeen (s u : Endpoint) : Type 0 where
@@ -65,39 +62,27 @@ faces =
     )
 
 -- SABME and UA went, and flags.
-abbrev near_items : List Item
-near_items = frame (0x00 ∷ 0x01 ∷ 0x7F ∷ []) ∷ replicate 13 idle
-
-abbrev far_items : List Item
-far_items = replicate 7 idle ++ (frame (0x00 ∷ 0x01 ∷ 0x73 ∷ []) ∷ replicate 6 idle)
-
-abbrev far_received : List ℕ
-far_received = 0x7E ∷ 0x00 ∷ 0x01 ∷ 0xDF ∷ 0xC8 ∷ 0xA8 ∷ replicate 14 0xFC
-
-abbrev near_received : List ℕ
-near_received = replicate 8 0x7E ++ (0x00 ∷ 0x01 ∷ 0x73 ∷ 0x08 ∷ 0x9E ∷ replicate 7 0x7E)
-
-near-items : (port_of rested.near.at).items ≡ near_items
+near-items : (port_of rested.near.at).items ≡ (frame (0x00 ∷ 0x01 ∷ 0x7F ∷ []) ∷ replicate 13 idle)
 unfolding lines.after lines.answer lines.takes_slot exchanged read_by reading header_of control_of unnumbered_of supervisory_of teis.course teis.refusal seq distance_of named low_bits ports.after ports.answer ports.meant fall_due
 near-items = refl
 
-far-items : (port_of rested.far.at).items ≡ far_items
+far-items : (port_of rested.far.at).items ≡ (replicate 7 idle ++ (frame (0x00 ∷ 0x01 ∷ 0x73 ∷ []) ∷ replicate 6 idle))
 unfolding lines.after lines.answer lines.takes_slot exchanged read_by reading header_of control_of unnumbered_of supervisory_of teis.course teis.refusal seq distance_of named low_bits ports.after ports.answer ports.meant fall_due
 far-items = refl
 
-far-received : (port_of rested.far.at).received ≡ far_received
+far-received : (port_of rested.far.at).received ≡ (0x7E ∷ 0x00 ∷ 0x01 ∷ 0xDF ∷ 0xC8 ∷ 0xA8 ∷ replicate 14 0xFC)
 unfolding lines.after lines.answer lines.takes_slot exchanged read_by reading header_of control_of unnumbered_of supervisory_of teis.course teis.refusal seq distance_of named low_bits ports.after ports.answer ports.meant fall_due
 far-received = refl
 
-near-received : (port_of rested.near.at).received ≡ near_received
+near-received : (port_of rested.near.at).received ≡ (replicate 8 0x7E ++ (0x00 ∷ 0x01 ∷ 0x73 ∷ 0x08 ∷ 0x9E ∷ replicate 7 0x7E))
 unfolding lines.after lines.answer lines.takes_slot exchanged read_by reading header_of control_of unnumbered_of supervisory_of teis.course teis.refusal seq distance_of named low_bits ports.after ports.answer ports.meant fall_due
 near-received = refl
 
-sabme-heard : map (λ octets. stream.frame octets) (frames_among near_items) ≡ stream.heard_in 8 far_received
+sabme-heard : map (λ octets. stream.frame octets) (frames_among (frame (0x00 ∷ 0x01 ∷ 0x7F ∷ []) ∷ replicate 13 idle)) ≡ stream.heard_in 8 (0x7E ∷ 0x00 ∷ 0x01 ∷ 0xDF ∷ 0xC8 ∷ 0xA8 ∷ replicate 14 0xFC)
 unfolding low_bits
 sabme-heard = refl
 
-ua-heard : map (λ octets. stream.frame octets) (frames_among far_items) ≡ stream.heard_in 8 near_received
+ua-heard : map (λ octets. stream.frame octets) (frames_among (replicate 7 idle ++ (frame (0x00 ∷ 0x01 ∷ 0x73 ∷ []) ∷ replicate 6 idle))) ≡ stream.heard_in 8 (replicate 8 0x7E ++ (0x00 ∷ 0x01 ∷ 0x73 ∷ 0x08 ∷ 0x9E ∷ replicate 7 0x7E))
 unfolding low_bits
 ua-heard = refl
 
@@ -106,9 +91,6 @@ near-arrived = ap (λ items. map (λ octets. stream.frame octets) (frames_among 
 
 far-arrived : map (λ octets. stream.frame octets) (frames_among (port_of rested.far.at).items) ≡ stream.heard_in 8 (port_of rested.near.at).received
 far-arrived = ap (λ items. map (λ octets. stream.frame octets) (frames_among items)) far-items ∙ ua-heard ∙ sym (ap (stream.heard_in 8) near-received)
-
-at-rest : IsAtRest its_line rested
-at-rest = record { face = faces; near = record { received = near-arrived; sent = near-seen.sent }; far = record { received = far-arrived; sent = far-seen.sent } }
 
 -- One content is granted then.
 one-granted : granted_in (after 1 (sends ∷ []) rested) - granted_in rested ≡ 1
@@ -119,7 +101,7 @@ one-granted = refl
 late : (moment : ℕ) → 93 ≤ moment → (s : TimedEndpoint) → s.clock ≡ runs_until moment → All (λ (x : Expiry). rested.beats + 73 ≤ x.moment * 1) s.clock.running
 late moment long s is = grind arith
 
-calm : IsCalmSince its_line rings (replicate 19 plain) (sends ∷ [])
+calm : IsCalmSince its_line (calls its_line plain) (replicate 19 plain) (sends ∷ [])
 calm =
     let is : longest 8 ≡ 18 = refl in
     record {
@@ -129,24 +111,24 @@ calm =
         are_clean = All-cons IsClean sends [] (refl, refl) (All-nil IsClean);
         t200 = (omega (arith, is), omega (arith, is));
       };
-      talk = All-cons (IsTalk its_line) rings (replicate 19 plain) rings-talk (plain-talk 19);
-      clean_before = All-cons IsClean rings (replicate 19 plain) (refl, refl) (plain-clean 19);
-      rest = at-rest;
+      talk = All-cons (IsTalk its_line) (calls its_line plain) (replicate 19 plain) rings-talk (plain-talk 19);
+      clean_before = All-cons IsClean (calls its_line plain) (replicate 19 plain) (refl, refl) (plain-clean 19);
+      rest = record { face = faces; near = record { received = near-arrived; sent = near-seen.sent }; far = record { received = far-arrived; sent = far-seen.sent } };
     }
 
-runs-on : RunsOn its_line rings (replicate 19 plain) (sends ∷ []) 72
+runs-on : RunsOn its_line (calls its_line plain) (replicate 19 plain) (sends ∷ []) 72
 runs-on = record { calm = calm; t203 = (late 10013 (omega arith) rested.near near_clock, late 10007 (omega arith) rested.far far_clock) }
 
 told-then : IsToldSince its_line rested (clean 1 72 (after 1 (sends ∷ []) rested))
 told-then =
-    let law = messages-come-in-time its_line rings (replicate 19 plain) (sends ∷ []) 72 runs-on in
+    let law = messages-come-in-time its_line (calls its_line plain) (replicate 19 plain) (sends ∷ []) 72 runs-on in
     law.1 (subst (λ g. 2 * g * (longest 8 + (longest 8 + 0)) ≤ 72) (sym one-granted) (omega arith))
 
 -- ---- SABME comes
 
 -- After three beats SABME is on the line, and nine beats later it was received.
 abbrev rung : Clocked
-rung = after 1 (rings ∷ replicate 2 plain) (begins its_line)
+rung = after 1 ((calls its_line plain) ∷ replicate 2 plain) (begins its_line)
 
 rung-items : ((port_of rung.near.at).items ≡ frame (0x00 ∷ 0x01 ∷ 0x7F ∷ []) ∷ []) × ((port_of rung.far.at).items ≡ idle ∷ idle ∷ [])
 unfolding lines.after lines.answer lines.takes_slot exchanged read_by reading header_of control_of unnumbered_of supervisory_of teis.course teis.refusal seq distance_of named low_bits ports.after ports.answer ports.meant fall_due
@@ -157,5 +139,5 @@ short = grind (arith, length, frames_among, rung-items)
 
 sabme-comes : HasReceived its_line rung.near (clean 1 9 rung).far × HasReceived its_line rung.far (clean 1 9 rung).near
 sabme-comes =
-    frames-come-in-beats its_line rings (replicate 2 plain) (replicate 9 plain) 0 fit (All-cons (IsTalk its_line) rings (replicate 2 plain) rings-talk (plain-talk 2)) (plain-talk 9)
-    (All-cons IsClean rings (replicate 2 plain) (refl, refl) (plain-clean 2)) (plain-clean 9) (omega arith) short.0 short.1
+    frames-come-in-beats its_line (calls its_line plain) (replicate 2 plain) (replicate 9 plain) 0 fit (All-cons (IsTalk its_line) (calls its_line plain) (replicate 2 plain) rings-talk (plain-talk 2)) (plain-talk 9)
+    (All-cons IsClean (calls its_line plain) (replicate 2 plain) (refl, refl) (plain-clean 2)) (plain-clean 9) (omega arith) short.0 short.1

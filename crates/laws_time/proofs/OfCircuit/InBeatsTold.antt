@@ -8,13 +8,12 @@ use Rattle.laws_wire.specs.Call as call
 use Rattle.laws_wire.specs.Wire as wire
 use Rattle.laws_order.proofs.OfCircuit.Takings.{is_taking}
 unfoldable use Rattle.laws_order.proofs.OfCircuit.Takings.{takings}
-use Rattle.laws_time.proofs.OfCircuit.AckedCall.{sum_all, sends_of, near_sends, far_sends}
+use Rattle.laws_time.proofs.OfCircuit.AckedCall.{steps-keep, sum_all, sends_of, near_sends, far_sends}
 use Rattle.laws_time.proofs.OfCircuit.AckedWire.{one_if_any, near_takes, far_takes}
 use Rattle.laws_time.proofs.OfCircuit.AgainLaw.{Since, since-all}
 use Rattle.laws_time.proofs.OfCircuit.ArrivIdle.{untaken}
 use Rattle.laws_time.proofs.OfCircuit.ArrivWay.{Flow}
-use Rattle.laws_time.proofs.OfCircuit.InBeatsCall.{Comes, are-calls}
-use Rattle.laws_time.proofs.OfCircuit.InBeatsFrames.{come-from, few-left, near-puts, far-puts, short-before, short-always}
+use Rattle.laws_time.proofs.OfCircuit.InBeatsFrames.{Comes, are-calls, come-from, few-left, near-puts, far-puts, short-before, short-always}
 use Rattle.laws_time.proofs.OfCircuit.Joined.{IsOf, IsAtOf, all-talk, heard_at, wire_of}
 use Rattle.laws_time.proofs.OfCircuit.Led as led
 use Rattle.laws_time.proofs.OfCircuit.Led.{plain-clean, plain-asks, undue-parts, data-is, data-talks}
@@ -56,9 +55,6 @@ zero-if : (b : Bool) → one_if b ≡ 0 → b ≡ false
 zero-if false is = refl
 zero-if true is = absurd (cc is)
 
-abbrev taken : wire.StepAt → Wire → ℕ
-taken k f = one_if (is_taking k f)
-
 -- With a step that takes nothing off the ways, and leaves none on them, nothing happens.
 record Quiet (k : wire.StepAt) (f : Wire) : Type 0 where
   same : wire.doing k f ≡ f
@@ -72,13 +68,13 @@ by-mute P gives takes wire.loses is = absurd is
 by-mute P gives takes wire.sends is = gives
 by-mute P gives takes wire.receives is = takes
 
-quiet-near : (act : wire.Step) → IsOf NoRequest act → (f : Wire) → taken (wire.at_near act) f ≡ 0 → (wire.acting act f).near.way ≡ [] → (wire.acting act f ≡ f) × (1 ≤ sends_of act → wire.answered next f.near ≡ gave None)
+quiet-near : (act : wire.Step) → IsOf NoRequest act → (f : Wire) → (one_if (is_taking (wire.at_near act) f)) ≡ 0 → (wire.acting act f).near.way ≡ [] → (wire.acting act f ≡ f) × (1 ≤ sends_of act → wire.answered next f.near ≡ gave None)
 quiet-near act is f =
-    by-mute (λ act. taken (wire.at_near act) f ≡ 0 → (wire.acting act f).near.way ≡ [] → (wire.acting act f ≡ f) × (1 ≤ sends_of act → wire.answered next f.near ≡ gave None))
+    by-mute (λ act. (one_if (is_taking (wire.at_near act) f)) ≡ 0 → (wire.acting act f).near.way ≡ [] → (wire.acting act f ≡ f) × (1 ≤ sends_of act → wire.answered next f.near ≡ gave None))
     (λ none near. let gives = gives-some f.near (front-nil f.near.way (wire.frames_by (wire.answered next f.near)) near) in (sends-none f gives, λ some. gives))
     (λ none near. (receives-none f (none-any f.far.way (zero-if (is_any f.far.way) none)), λ some. absurd (omega (arith, some)))) act is
 
-quiet-one : (k : wire.StepAt) → Mute k → (f : Wire) → taken k f ≡ 0 → (wire.doing k f).near.way ≡ [] → (wire.doing k f).far.way ≡ [] → Quiet k f
+quiet-one : (k : wire.StepAt) → Mute k → (f : Wire) → (one_if (is_taking k f)) ≡ 0 → (wire.doing k f).near.way ≡ [] → (wire.doing k f).far.way ≡ [] → Quiet k f
 quiet-one (wire.at_near act) is f none near far = let x = quiet-near act is f none near in record { same = x.0; near = x.1; far = λ some. absurd (omega (arith, some)) }
 quiet-one (wire.at_far act) is f none near far = let x = quiet-near act is (wire.turned f) none far in record { same = ap wire.turned x.0; near = λ some. absurd (omega (arith, some)); far = x.1 }
 
@@ -91,8 +87,7 @@ all-quiet : (es : List wire.StepAt) → All Mute es → (f : Wire) → takings e
 unfolding wire_doing_all takings sum_all
 all-quiet [] mute f none near far = record { same = refl; near = λ some. absurd (omega (arith, some)); far = λ some. absurd (omega (arith, some)) }
 all-quiet (k ∷ ks) mute f none near far =
-    let f' = wire.doing k f in
-    let rest = all-quiet ks (All-tail Mute k ks mute) f' (omega (arith, none)) near far in
+    let f' = wire.doing k f in let rest = all-quiet ks (All-tail Mute k ks mute) f' (omega (arith, none)) near far in
     let one = quiet-one k (All-head Mute k ks mute) f (omega (arith, none)) (sym (ap (λ (f : Wire). f.near.way) rest.same) ∙ near) (sym (ap (λ (f : Wire). f.far.way) rest.same) ∙ far) in
     record { same = rest.same ∙ one.same; near = λ some. by-near one rest some; far = λ some. by-far one rest some }
   where
@@ -119,9 +114,7 @@ still-one (wire.at_near act) is f h = still-near act is f h.near h.far_way
 still-one (wire.at_far act) is f h = ap wire.turned (still-near act is (wire.turned f) h.far h.near_way)
 
 stays-still : (es : List wire.StepAt) → All Mute es → (f : Wire) → IsStill f → wire.doing_all es f ≡ f
-unfolding wire_doing_all
-stays-still [] mute f h = refl
-stays-still (k ∷ ks) mute f h = ap (wire.doing_all ks) (still-one k (All-head Mute k ks mute) f h) ∙ stays-still ks (All-tail Mute k ks mute) f h
+stays-still es mute f h = steps-keep (λ g. g ≡ f) Mute (λ k g is same. ap (wire.doing k) same ∙ still-one k is f h) es mute f refl
 
 -- Nothing is granted meanwhile.
 abbrev pub granted_on : Wire → ℕ
@@ -145,16 +138,14 @@ granted-one (wire.at_near act) is f = granted-near act is f
 granted-one (wire.at_far act) is f = let one = granted-near act is (wire.turned f) in omega (arith, one)
 
 granted-all : (es : List wire.StepAt) → All Mute es → (f : Wire) → granted_on (wire.doing_all es f) ≡ granted_on f
-unfolding wire_doing_all
-granted-all [] mute f = refl
-granted-all (k ∷ ks) mute f = granted-all ks (All-tail Mute k ks mute) (wire.doing k f) ∙ granted-one k (All-head Mute k ks mute) f
+granted-all es mute f = steps-keep (λ g. granted_on g ≡ granted_on f) Mute (λ k g is same. granted-one k is g ∙ same) es mute f refl
 
 -- How many frames are taken.
 any-one : (way : List (List ℕ)) → one_if_any way ≡ one_if (is_any way)
 any-one [] = refl
 any-one (o ∷ os) = refl
 
-taken-one : (k : wire.StepAt) (f : Wire) → near_takes k f + far_takes k f ≡ taken k f
+taken-one : (k : wire.StepAt) (f : Wire) → near_takes k f + far_takes k f ≡ (one_if (is_taking k f))
 taken-one k f = grind (arith, any-one)
 
 taken-all : (es : List wire.StepAt) (f : Wire) → sum_all near_takes es f + sum_all far_takes es f ≡ takings es f
@@ -173,8 +164,7 @@ pub heard-all : (n201 k : ℕ) (s r r' : Endpoint) (ws : List ℕ) (frames : Lis
 heard-all n201 k s r r' ws frames n flow all tallied =
     let put = sym (length-map (frames_among (port_of s).items) (λ octets. stream.frame octets)) ∙ ap length flow.are ∙ length-append (heard_in n201 (port_of r).received) (framed frames) in
     let long = length-map frames (λ octets. stream.frame octets) in let whole = ap length all.1 ∙ length-append (framed (frames_among (port_of s).items)) all.0 in
-    let same = length-map (frames_among (port_of s).items) (λ octets. stream.frame octets) in
-    omega (arith, put, long, whole, same, tallied)
+    let same = length-map (frames_among (port_of s).items) (λ octets. stream.frame octets) in omega (arith, put, long, whole, same, tallied)
 
 replicate-both : (i j : ℕ) → replicate (i + j) plain ≡ replicate i plain ++ replicate j plain
 replicate-both zero j = ap (λ n. replicate n plain) (let e : zero + j ≡ j = omega arith in e)
@@ -261,8 +251,7 @@ module _ (l : Line) (can : CanCall l.near l.near_line l.far l.far_line l.tei) wh
 
     stays : (n : ℕ) (w : Clocked) (h : Reached w) → NoneFallsDue l.rate (replicate n plain) w → IsStill (at_wire w h) → Found (clean l.rate n w)
     stays n w h undue still =
-        let x = mute-led n w h.there h.back h.joined undue in
-        (goes-on w (clean l.rate n w) h x, subst IsStill (sym (stays-still x.es x.talk (at_wire w h) still) ∙ x.leads) still)
+        let x = mute-led n w h.there h.back h.joined undue in (goes-on w (clean l.rate n w) h x, subst IsStill (sym (stays-still x.es x.talk (at_wire w h) still) ∙ x.leads) still)
 
     -- In so many beats a frame is taken, or no turn is left where they begin.
     module _ (m : ℕ) (w : Clocked) (since : Since l can 0 w) (h : Reached w) (small : AreShort m w.near) (small_far : AreShort m w.far) where
@@ -291,10 +280,8 @@ module _ (l : Line) (can : CanCall l.near l.near_line l.far l.far_line l.tei) wh
         still-here =
             let f = at_wire w h in let L = replicate (longest m) plain in let long = length-replicate {A = Beat} (longest m) plain in
             let q = all-quiet x1.es x1.talk f (omega (arith, none)) (ap (λ (f : Wire). f.near.way) x1.leads ∙ ways.0) (ap (λ (f : Wire). f.far.way) x1.leads ∙ ways.1) in
-            let few = few-left l can m w since.both small small_far in let a = few.0 in let b = few.1 in
-            let put = near-puts l can L (plain-talk (longest m)) w since.both (omega (arith, a, long)) in
-            let put_far = far-puts l can L (plain-talk (longest m)) w since.both (omega (arith, b, long)) in
-            let n = x1.near_put in let k = x1.far_put in
+            let few = few-left l can m w since.both small small_far in let a = few.0 in let b = few.1 in let put = near-puts l can L (plain-talk (longest m)) w since.both (omega (arith, a, long)) in
+            let put_far = far-puts l can L (plain-talk (longest m)) w since.both (omega (arith, b, long)) in let n = x1.near_put in let k = x1.far_put in
             record {
               near = q.near (omega (arith, put, n));
               far = q.far (omega (arith, put_far, k));
@@ -306,24 +293,16 @@ module _ (l : Line) (can : CanCall l.near l.near_line l.far l.far_line l.tei) wh
         → most + 2 * granted_on (at_wire w h) ≤ takings h.es f0 + 2 * granted_on f0 + k → Found (clean l.rate n w)
     finds m zero n w enough since h undue small small_far left = stays n w h undue (spent w h (omega (arith, left)))
     finds m (suc k) n w enough since h undue small small_far left =
-        let L = longest m in let M = L + l.way in let rest = n - (L + M) in
-        let sum = suc-mul k (L + M) in
-        let same : L + (M + rest) ≡ n = omega (arith, enough, sum) in
-        let p = undue-both L (M + rest) w (subst (λ n. NoneFallsDue l.rate (replicate n plain) w) (sym same) undue) in
-        let w1 = clean l.rate L w in let w2 = clean l.rate M w1 in
-        let q = undue-both M rest w1 p.1 in
-        let led_to : clean l.rate n w ≡ clean l.rate rest w2 = ap (λ n. clean l.rate n w) (sym same) ∙ clean-both L (M + rest) w ∙ clean-both M rest w1 in
+        let L = longest m in let M = L + l.way in let rest = n - (L + M) in let sum = suc-mul k (L + M) in let same : L + (M + rest) ≡ n = omega (arith, enough, sum) in
+        let p = undue-both L (M + rest) w (subst (λ n. NoneFallsDue l.rate (replicate n plain) w) (sym same) undue) in let w1 = clean l.rate L w in let w2 = clean l.rate M w1 in
+        let q = undue-both M rest w1 p.1 in let led_to : clean l.rate n w ≡ clean l.rate rest w2 = ap (λ n. clean l.rate n w) (sym same) ∙ clean-both L (M + rest) w ∙ clean-both M rest w1 in
         let since1 = since-all l can 0 (replicate L plain) (plain-talk L) (plain-clean L) w since in let since2 = since-all l can 0 (replicate M plain) (plain-talk M) (plain-clean M) w1 since1 in
         let last = subst (λ (u : Clocked). AreShort m u.near) led_to small in let last_far = subst (λ (u : Clocked). AreShort m u.far) led_to small_far in
         let s2 = short-before l can m (replicate rest plain) (plain-talk rest) w2 since2.both last last_far in
-        let s1 = short-before l can m (replicate M plain) (plain-talk M) w1 since1.both s2.0 s2.1 in
-        let s0 = short-before l can m (replicate L plain) (plain-talk L) w since.both s1.0 s1.1 in
-        let x1 = mute-led L w h.there h.back h.joined p.0 in let h1 = goes-on w w1 h x1 in
-        let x2 = mute-led M w1 x1.there x1.back x1.joined q.0 in let h2 = goes-on w1 w2 h1 x2 in
-        let f = at_wire w h in let f1 = at_wire w1 h1 in
-        let t1 = takings-append h.es x1.es f0 ∙ ap (λ g. takings h.es f0 + takings x1.es g) h.leads in
-        let t2 = takings-append h1.es x2.es f0 ∙ ap (λ g. takings h1.es f0 + takings x2.es g) h1.leads in
-        let g1 = ap granted_on (sym x1.leads) ∙ granted-all x1.es x1.talk f in
+        let s1 = short-before l can m (replicate M plain) (plain-talk M) w1 since1.both s2.0 s2.1 in let s0 = short-before l can m (replicate L plain) (plain-talk L) w since.both s1.0 s1.1 in
+        let x1 = mute-led L w h.there h.back h.joined p.0 in let h1 = goes-on w w1 h x1 in let x2 = mute-led M w1 x1.there x1.back x1.joined q.0 in let h2 = goes-on w1 w2 h1 x2 in
+        let f = at_wire w h in let f1 = at_wire w1 h1 in let t1 = takings-append h.es x1.es f0 ∙ ap (λ g. takings h.es f0 + takings x1.es g) h.leads in
+        let t2 = takings-append h1.es x2.es f0 ∙ ap (λ g. takings h1.es f0 + takings x2.es g) h1.leads in let g1 = ap granted_on (sym x1.leads) ∙ granted-all x1.es x1.talk f in
         let g2 = ap granted_on (sym x2.leads) ∙ granted-all x2.es x2.talk f1 in
         go (takings x1.es f + takings x2.es f1) (λ some. subst Found (sym led_to) (finds m k rest w2 (omega (arith, enough, sum, same)) since2 h2 q.1 last last_far (omega (arith, left, t1, t2, g1, g2, some))))
         (λ none. stays n w h undue (still-here m w since h s0.0 s0.1 x1 s1.0 s1.1 x2 none))
@@ -339,14 +318,11 @@ module _ (l : Line) (can : CanCall l.near l.near_line l.far l.far_line l.tei) wh
     pub told-in : (m k n : ℕ) (w : Clocked) → k ≡ most + 2 * (length w.near.at.granted + length w.far.at.granted - (length s0.granted + length r0.granted)) → k * (longest m + (longest m + l.way)) ≤ n → Since l can 0 w
         → led.LedTo l can (IsDataOf l) (λ q is. is) s0 r0 [] [] w → NoneFallsDue l.rate (replicate n plain) w → AreShort m (clean l.rate n w).near → AreShort m (clean l.rate n w).far → AllIsTold (clean l.rate n w)
     told-in m k n w so enough since h undue small small_far =
-        let x = finds m k n w enough since (reached w h) undue small small_far (omega (arith, so)) in
-        let c = comes x.0.es x.0.talk in
-        let u = clean l.rate n w in
+        let x = finds m k n w enough since (reached w h) undue small small_far (omega (arith, so)) in let c = comes x.0.es x.0.talk in let u = clean l.rate n w in
         let told = subst (λ (f : Wire). (IsStill f → f.near.told ≡ near_due f.far.granted) × (IsStill f → f.far.told ≡ far_due f.near.granted)) x.0.leads (c.near_all, c.far_all) in
         (told.0 x.1, told.1 x.1)
 
     pub told-always : (k n : ℕ) (w : Clocked) → k ≡ most + 2 * (length w.near.at.granted + length w.far.at.granted - (length s0.granted + length r0.granted)) → k * (longest l.near.n201 + (longest l.near.n201 + l.way)) ≤ n → Since l can 0 w
         → led.LedTo l can (IsDataOf l) (λ q is. is) s0 r0 [] [] w → NoneFallsDue l.rate (replicate n plain) w → AllIsTold (clean l.rate n w)
     told-always k n w so enough since h undue =
-        let s = short-always l can (clean l.rate n w) (since-all l can 0 (replicate n plain) (plain-talk n) (plain-clean n) w since).both in
-        told-in l.near.n201 k n w so enough since h undue s.0 s.1
+        let s = short-always l can (clean l.rate n w) (since-all l can 0 (replicate n plain) (plain-talk n) (plain-clean n) w since).both in told-in l.near.n201 k n w so enough since h undue s.0 s.1

@@ -1,33 +1,21 @@
 -- An end that rings, one thing at a time: T200 runs on, or SABME is due again; as long as no frame is lost.
-use Rattle.laws_time.proofs.Vocabulary.{AreOctets, Bool, Clock, Config, ControlFrame, Expiry, IsInRange, Lengths, LineTold, Link, LinkEvent, LinkTimer, List, None, Observed, Option, Request, Sabme, Service, Some, State, T200, T203, Terms, TimedEndpoint, Timer, View, [], aim_of_expiry, aim_of_request, and-false, answers, ap, arith, as_heard, at, at_requested, at_timer, by_request, command_in, cond}
-use Rattle.laws_time.proofs.Vocabulary.{contents_given, due, expired, false, flat_map, for_layer_3, fresh_link, happens, inl, inr, is_of, is_on, is_same, is_some, is_waiting, length, line_at, link_after as after, link_in, link_of, link_runs, moment_at, moment_of, moves, none-of-both, octet_at, option_map_or, place_in, port_of, refl, said_by, state, state_number, subst, sym, terms, true}
-use Rattle.laws_time.proofs.Vocabulary.{view_behind, view_of, without_first, ℕ, ◌&&◌, ◌++◌, ◌+◌, ◌==◌, ◌||◌, ◌∙◌, ◌∷◌, ◌≡◌, ◌≤◌, ◌⊎◌}
+use Rattle.laws_time.proofs.Vocabulary.{All, All-nil, AreOctets, Bool, ClearBusy, Config, ControlFrame, Data, Expiry, IsAskedOfLink as IsAsked, IsInRange, IsOfLink, Lengths, LineTold, Link, LinkEvent, LinkTimer, List, None, Option, Port, Request, Sabme, Service, SetBusy, Some, State, T200, T203, Terms, TimedEndpoint, Timer, [], aim_of_expiry, aim_of_request, and-false, by-bool}
+use Rattle.laws_time.proofs.Vocabulary.{answers, ap, arith, as_heard, asks, at_requested, at_timer, by_request, comes_to, command_in, cond, contents_given, due, expired, falls, false, flat_map, for_layer_3, happens, inl, inr, is_due, is_of, is_same, is_waiting, length, link_after as after, link_runs, moment_of, moves}
+use Rattle.laws_time.proofs.Vocabulary.{none-of-both, obeyed, octet_at, option_map_or, place_in, port_of, refl, said_by, state, state_number, subst, sym, terms, true, view_of, without_first, ℕ, ◌&&◌, ◌*◌, ◌++◌, ◌+◌, ◌<◌, ◌==◌, ◌||◌, ◌∙◌, ◌≡◌, ◌≤◌, ◌⊎◌}
 use Rattle.lapd_frame.specs.declared.timers.Timer.TheVariants as timers
 use Rattle.model_link.specs.Events as link
-use Rattle.model_link.specs.Link.{may_repeat}
 use Rattle.model_link.specs.Machine as links
-use Rattle.std.proofs.lemmas.List.Concat.{flat_map-append}
 use Rattle.model_line.specs.Event as line
-use Rattle.model_line.specs.Line.{Line}
-use Rattle.model_card.specs.Card as cards
-use Rattle.model_card.specs.Event as frame_event
-use Rattle.model_card.specs.Run as frame_runs
 use Rattle.model_card.specs.ports.Port as port
-use Rattle.laws_link.specs.States.{by_expiry}
 use Rattle.laws_order.specs.circuit.Circuit as circuit
+use Rattle.model_link.specs.Link.{may_repeat}
+use Rattle.std.proofs.lemmas.List.Concat.{flat_map-append}
+use Rattle.model_line.specs.Line.{Line}
+use Rattle.laws_link.specs.States.{by_expiry}
 use Rattle.laws_time.proofs.Falls.{dropped}
-use Rattle.laws_time.proofs.Links.{on-where, stays-on, view-then}
-use Rattle.laws_time.proofs.OctetsMean.{meant_at}
-use Rattle.laws_time.proofs.Sending.{t200-is}
-use Rattle.laws_time.proofs.OfCircuit.AnsweredEnds.{lost, lost-more, lost-expired, expired-told, its-same, DueAt, due-same, due-moved, frame-put, text-low}
-use Rattle.laws_time.proofs.OfCircuit.AnsweredRows.{Puts, establishes, leads, sabme-in}
-use Rattle.laws_time.proofs.OfCircuit.Ends.{first-of, rest-of, stands-without}
-use Rattle.laws_time.proofs.OfCircuit.Moments.{awaits-in, counts-on, not-anew, runs-on}
-use Rattle.laws_time.proofs.OfCircuit.Open.{half, IsOrdinary}
-use Rattle.laws_time.proofs.OfCircuit.Orders.{RunsOurs}
-use Rattle.laws_time.proofs.OfCircuit.Standing.{Ends, Moved, ends-asked, ends-expired, expired-event}
-use Rattle.laws_time.proofs.OfCircuit.Under.{EndBut, EndOk, past, all-past, all-then, here-is, next-card, o-is, q-is, clock-is, state-here}
-use Rattle.laws_time.proofs.Moments.{is_own_t200, own-timer}
+use Rattle.laws_time.proofs.OfCircuit.Words.{Counts, EndBut, EndOk, Ends, Goes, IsOrdinary, Moved, Pulled, Rests, RunsOurs, all-keep, at-moment, at_time, awaits-in, but-gone, ends-asked, ends-expired, expired-event, first-of, gone, half, is_own_t200, meant_at, o-is, orders-are, own-timer, past, still-runs, t200-there}
+use Rattle.laws_time.proofs.OfCircuit.AnsweredEnds.{lost, lost-more, lost-expired, expired-told, its-same, DueAt, due-same, due-moved, frame-put, text-low, due-pull}
+use Rattle.laws_time.proofs.OfCircuit.AnsweredRows.{Puts, establishes, leads, sabme-in, offer-stays}
 
 -- ---- the link
 
@@ -72,30 +60,7 @@ module _ (c : Config) (service : Service) (tei : ℕ) (ranged : IsInRange c) (le
   module _ (a : TimedEndpoint) (ev : port.Event) (S M : ℕ) (h : EndBut c service tei 0 ranged lengths rate S M a) (what : line.Event) (is : meant_at (octet_at a.at.line ev) a.at.card ≡ Some what)
       (other : is_own_t200 service tei what ≡ false) (next : Ends c service tei 0 ranged (circuit.happens ev a.at)) where
     pub on-runs : state_number h.ends.its.state ≡ 5 → state_number next.its.state ≡ 5 → runs_at (happens ev a) ≡ runs_at a
-    on-runs five then_five =
-        let number = a.at.line in
-        let before = past c service tei 0 ranged lengths rate a ev S M M h in
-        let o = (view_of c service tei number before).link in
-        let q = (view_behind c service tei number before what).link in
-        let all = all-past c service tei 0 ranged lengths rate a ev S M M h in
-        let within = h.ends.ran.within in
-        let o_is : o.state ≡ state_number h.ends.its.state = o-is c service tei 0 ranged lengths rate a ev S M M h what is in
-        let q_is : q.state ≡ state_number next.its.state = q-is c service tei 0 ranged lengths rate a ev S M M h what is next in
-        let on = on-where c before number ranged all within service tei
-        (ap is_some (ap (state number service tei) (sym (here-is c service tei 0 ranged lengths rate a ev S M M h)) ∙ state-here c service tei 0 ranged lengths rate a.at h.ends)) in
-        let then_card = next-card c service tei 0 ranged lengths rate a ev S M M h what is in
-        let all_then = all-then c service tei 0 ranged lengths rate a ev S M M h what is in
-        let on_then = ap (λ (v : View). is_on tei v.teis) (sym (view-then c service tei number before (at number what)))
-        ∙ on-where c (before ++ at number what ∷ []) number ranged all_then within service tei
-        (ap is_some (ap (state number service tei) (sym then_card) ∙ state-here c service tei 0 ranged lengths rate (circuit.happens ev a.at) next)) in
-        let by = stays-on c before number ranged all within service tei what on on_then in
-        let said = (moment_at c before number what).answer in
-        let same : q.state ≡ o.state = q_is ∙ then_five ∙ sym (o_is ∙ five) in
-        let few : q.expiries ≤ o.expiries = subst (λ (q : Observed). q.expiries ≤ o.expiries) (sym by) (counts-on c service tei what said o other) in
-        let waits : is_waiting o.state ≡ true = ap is_waiting (o_is ∙ five) in
-        let none = not-anew c before number ranged all within service tei what a.clock waits same few in
-        ap (λ (k : Clock). moment_of number (timers.T200 service tei) k.running) (clock-is c service tei 0 ranged lengths rate a ev S M M h what is)
-        ∙ runs-on c before number ranged all within service tei what a.clock waits same none
+    on-runs five then_five = still-runs c service tei 0 ranged lengths rate a ev S M M h what is next other (then_five ∙ sym five) (ap is_waiting five)
 
   -- What is kept: T200 falls due at this moment, or SABME is due.
   module _ (low most way heard : ℕ) (m base : ℕ) where
@@ -136,8 +101,7 @@ module _ (c : Config) (service : Service) (tei : ℕ) (ranged : IsInRange c) (le
         where
           go : (v : Option LinkEvent) → ((e : LinkEvent) → v ≡ Some e → e ≡ link.requested its false) → (option_map_or (λ e. links.after (terms c service tei) e h.ends.its) v h.ends.its).state ≡ h.ends.its.state
           go None by = refl
-          go (Some e) by =
-              ap (λ e. (links.after (terms c service tei) e h.ends.its).state) (by e refl) ∙ leads (terms c service tei) (link.requested its false) h.ends.its ∙ mild h.ends.its.state
+          go (Some e) by = ap (λ e. (links.after (terms c service tei) e h.ends.its).state) (by e refl) ∙ leads (terms c service tei) (link.requested its false) h.ends.its ∙ mild h.ends.its.state
 
       pub asked-kept : Then (port.request r) a
       asked-kept =
@@ -148,8 +112,7 @@ module _ (c : Config) (service : Service) (tei : ℕ) (ranged : IsInRange c) (le
               rings = subst Rings (sym same-state) x.rings;
               said = λ four none. x.said (ap state_number (sym same-state) ∙ four) (untold-parts a.at.told _ none).0;
               due = λ few five.
-                  let was = ap state_number (sym same-state) ∙ five in
-                  go was five (x.due (omega (arith, more, few)) was);
+                  let was = ap state_number (sym same-state) ∙ five in go was five (x.due (omega (arith, more, few)) was);
             },
           )
         where
@@ -162,36 +125,15 @@ module _ (c : Config) (service : Service) (tei : ℕ) (ranged : IsInRange c) (le
     -- A timer of the link falls due: of T200 SABME is put again.
     module _ (a : TimedEndpoint) (S M : ℕ) (h : EndOk c service tei 0 ranged lengths rate S M a) (x : Kept a h.but.ends) (e : Expiry) (falls_now : due a.clock ≡ Some e)
         (low_given : low ≤ length (port_of a.at).given) (soon_given : length (port_of a.at).given + half c service tei 0 ranged ≤ most) where
-      abbrev gone : TimedEndpoint
-      gone = record a { clock = without_first a.clock }
-
-      abbrev but : EndBut c service tei 0 ranged lengths rate S M (record a { clock = without_first a.clock })
-      but = record {
-        ends = h.but.ends;
-        clock = stands-without a h.but.clock;
-        ours = rest-of (RunsOurs service tei) a.clock.running h.but.ours;
-        lengths_are = h.but.lengths_are;
-        early = h.but.early;
-        polls = h.but.polls;
-        finals = h.but.finals;
-      }
-
-      abbrev before : List frame_event.Event
-      before = past c service tei 0 ranged lengths rate gone (port.expiry (timers.T200 service tei)) S M M but
+      abbrev but : EndBut c service tei 0 ranged lengths rate S M (gone c service tei 0 ranged lengths rate a)
+      but = but-gone c service tei 0 ranged lengths rate a S M h.but
 
       -- In state 5 T200 runs.
-      link-is : link_of service tei (line_at a.at.line (frame_runs.after_all (cards.fresh c) before)) ≡ h.but.ends.its
-      link-is =
-          ap (λ card. link_of service tei (line_at a.at.line card)) (sym (here-is c service tei 0 ranged lengths rate gone (port.expiry (timers.T200 service tei)) S M M but))
-          ∙ ap (λ o. option_map_or (link_in (line_at a.at.line a.at.card.card) service) o fresh_link) h.but.ends.stands.speaks.placed ∙ h.but.ends.stands.speaks.link
-
       runs-there : state_number h.but.ends.its.state ≡ 5 → link_runs T200 h.but.ends.its.running ≡ true
       runs-there five =
-          let o = (view_of c service tei a.at.line before).link in
-          let o_is : o.state ≡ state_number h.but.ends.its.state = o-is c service tei 0 ranged lengths rate gone (port.expiry (timers.T200 service tei)) S M M but (line.expiry (timers.T200 service tei)) refl in
-          ap (λ (l : Link). link_runs T200 l.running) (sym link-is)
-          ∙ sym (t200-is c before a.at.line ranged (all-past c service tei 0 ranged lengths rate gone (port.expiry (timers.T200 service tei)) S M M but) h.but.ends.ran.within service tei)
-          ∙ awaits-in o (ap is_waiting (o_is ∙ five))
+          let o = (view_of c service tei a.at.line (past c a h.but.ends.ran (port.expiry (timers.T200 service tei)))).link in
+          let o_is : o.state ≡ state_number h.but.ends.its.state = o-is c service tei 0 ranged lengths rate a (port.expiry (timers.T200 service tei)) S M M h.but (line.expiry (timers.T200 service tei)) refl in
+          sym (t200-there c service tei 0 ranged lengths rate a S M h.but) ∙ awaits-in o (ap is_waiting (o_is ∙ five))
 
       module _ (timer : Timer) (its : LinkTimer) (aims : (l : Line) → aim_of_expiry timer l ≡ at_timer service tei its (place_in l tei)) where
         fell_mv : Moved c service tei 0 ranged a.at (circuit.happens (port.expiry timer) a.at) h.but.ends (λ e. e ≡ link.expired its)
@@ -216,7 +158,7 @@ module _ (c : Config) (service : Service) (tei : ℕ) (ranged : IsInRange c) (le
         fell-said : state_number fell_mv.ends.its.state ≡ 4 → IsUntold (circuit.happens (port.expiry timer) a.at).told → ⊥
         fell-said four none = grind (arith, said_by, links.course, terms, untold-parts, fell-told, state_number, links.after, state, fell_mv, option_map_or, its-event, given-up)
 
-        expired-kept : ((lost (circuit.happens (port.expiry timer) a.at) ≤ base) → state_number h.but.ends.its.state ≡ 5 → state_number fell_mv.ends.its.state ≡ 5 → IsDue (happens (port.expiry timer) gone) fell_mv.ends)
+        expired-kept : ((lost (circuit.happens (port.expiry timer) a.at) ≤ base) → state_number h.but.ends.its.state ≡ 5 → state_number fell_mv.ends.its.state ≡ 5 → IsDue (happens (port.expiry timer) (record a { clock = without_first a.clock })) fell_mv.ends)
             → Then (port.expiry timer) (record a { clock = without_first a.clock })
         expired-kept on =
             let more = lost-more (port.expiry timer) a.at in let low_is = x.low_lost in (
@@ -226,12 +168,9 @@ module _ (c : Config) (service : Service) (tei : ℕ) (ranged : IsInRange c) (le
 
       t200-kept : Then (port.expiry (timers.T200 service tei)) (record a { clock = without_first a.clock })
       t200-kept =
-          expired-kept (timers.T200 service tei) T200 (λ l. refl)
-          (λ few five then_five.
-          let y = fell_mv (timers.T200 service tei) T200 (λ l. refl) in
-          let ev = its-event (timers.T200 service tei) T200 (λ l. refl) in
-          let all = lost-expired c service tei 0 ranged a.at h.but.ends (timers.T200 service tei) T200 (λ l. refl) in
-          let low_is = x.low_lost in
+          expired-kept (timers.T200 service tei) T200 (λ l. refl) (λ few five then_five.
+          let y = fell_mv (timers.T200 service tei) T200 (λ l. refl) in let ev = its-event (timers.T200 service tei) T200 (λ l. refl) in
+          let all = lost-expired c service tei 0 ranged a.at h.but.ends (timers.T200 service tei) T200 (λ l. refl) in let low_is = x.low_lost in
           let text = text-low c service tei 0 ranged a.at h.but.ends in
           let after_five = ap (λ (l : Link). state_number l.state) (sym (y.link_is ∙ ap (λ v. option_map_or (λ e. links.after (terms c service tei) e h.but.ends.its) v h.but.ends.its) ev)) ∙ then_five in
           inr (frame-put c service tei 0 ranged establishes low most way heard a.at (circuit.happens (port.expiry (timers.T200 service tei)) a.at) h.but.ends (λ e. e ≡ link.expired T200) y
@@ -240,18 +179,16 @@ module _ (c : Config) (service : Service) (tei : ℕ) (ranged : IsInRange c) (le
 
       t203-kept : e.timer ≡ timers.T203 service tei → Then (port.expiry (timers.T203 service tei)) (record a { clock = without_first a.clock })
       t203-kept same =
-          let y = fell_mv (timers.T203 service tei) T203 (λ l. refl) in
-          let more = lost-more (port.expiry (timers.T203 service tei)) a.at in
-          expired-kept (timers.T203 service tei) T203 (λ l. refl)
-          (λ few five then_five. go five then_five (x.due (omega (arith, more, few)) five))
+          let y = fell_mv (timers.T203 service tei) T203 (λ l. refl) in let more = lost-more (port.expiry (timers.T203 service tei)) a.at in
+          expired-kept (timers.T203 service tei) T203 (λ l. refl) (λ few five then_five. go five then_five (x.due (omega (arith, more, few)) five))
         where
           other : is_of a.at.line (timers.T200 service tei) e ≡ false
           other = ap (λ t. (e.line == a.at.line) && is_same t (timers.T200 service tei)) same ∙ and-false (e.line == a.at.line)
 
           go : state_number h.but.ends.its.state ≡ 5 → state_number (fell_mv (timers.T203 service tei) T203 (λ l. refl)).ends.its.state ≡ 5 → IsDue a h.but.ends
-              → IsDue (happens (port.expiry (timers.T203 service tei)) gone) (fell_mv (timers.T203 service tei) T203 (λ l. refl)).ends
+              → IsDue (happens (port.expiry (timers.T203 service tei)) (record a { clock = without_first a.clock })) (fell_mv (timers.T203 service tei) T203 (λ l. refl)).ends
           go five then_five (inl runs_now) =
-              inl (on-runs gone (port.expiry (timers.T203 service tei)) S M but (line.expiry (timers.T203 service tei)) refl refl (fell_mv (timers.T203 service tei) T203 (λ l. refl)).ends five then_five
+              inl (on-runs (record a { clock = without_first a.clock }) (port.expiry (timers.T203 service tei)) S M but (line.expiry (timers.T203 service tei)) refl refl (fell_mv (timers.T203 service tei) T203 (λ l. refl)).ends five then_five
               ∙ dropped a.at.line (timers.T200 service tei) e a.clock.running a.clock.now falls_now other ∙ runs_now)
           go five then_five (inr is_due) =
               let y = fell_mv (timers.T203 service tei) T203 (λ l. refl) in
@@ -262,3 +199,74 @@ module _ (c : Config) (service : Service) (tei : ℕ) (ranged : IsInRange c) (le
       falls-kept =
           own-timer service tei (λ timer. e.timer ≡ timer → Then (port.expiry timer) (record a { clock = without_first a.clock })) (λ same. t200-kept) t203-kept
           e.timer (first-of (RunsOurs service tei) a.clock.running a.clock.now e h.but.ours falls_now) refl
+
+-- ---- an end that rings, as its moment comes and an octet is pulled: T200 runs on, or SABME is due again
+
+module _ (c : Config) (service : Service) (tei : ℕ) (ranged : IsInRange c) (lengths : Lengths) (rate : ℕ) (low most way heard : ℕ) (m base : ℕ) where
+  abbrev pub KeptAt : (a : TimedEndpoint) → Ends c service tei 0 ranged a.at → Type 0
+  KeptAt a h = Kept c service tei ranged lengths rate low most way heard m base a h
+
+  abbrev IsBoth : Request → Type 0
+  IsBoth r = IsOfLink service tei r × IsAsked service tei r
+
+  asks-one : (r : Request) (S M : ℕ) (a : TimedEndpoint) (h : (EndOk c service tei 0 ranged lengths rate S M a)) → KeptAt a h.but.ends → IsBoth r → Then c service tei ranged lengths rate low most way heard m base (port.request r) a
+  asks-one (Data s t contents) S M a h x is =
+      asked-kept c service tei ranged lengths rate low most way heard m base a S M h.but x (Data s t contents) (link.Data contents)
+      (λ l. λ i. at_requested (is.0.0 i) (is.0.1 i) (link.Data contents) (place_in l (is.0.1 i))) is.0.2 (λ state. stays state contents)
+    where
+      stays : (s : State) (contents : List ℕ) → by_request s (link.Data contents) ≡ s
+      stays s contents = grind arith
+  asks-one (SetBusy s t) S M a h x is =
+      asked-kept c service tei ranged lengths rate low most way heard m base a S M h.but x (SetBusy s t) link.SetBusy
+      (λ l. λ i. at_requested (is.0.0 i) (is.0.1 i) link.SetBusy (place_in l (is.0.1 i))) (All-nil (λ octet. octet < 256)) (λ state. grind arith)
+  asks-one (ClearBusy s t) S M a h x is =
+      asked-kept c service tei ranged lengths rate low most way heard m base a S M h.but x (ClearBusy s t) link.ClearBusy
+      (λ l. λ i. at_requested (is.0.0 i) (is.0.1 i) link.ClearBusy (place_in l (is.0.1 i))) (All-nil (λ octet. octet < 256)) (λ state. grind arith)
+  asks-one other S M a h x is = absurd is.1
+
+  -- So many octets were given.
+  module _ (g : ℕ) (low_given : low ≤ g) (soon_given : g + half c service tei 0 ranged ≤ most) where
+    -- What is kept, however the end is seen.
+    abbrev On : TimedEndpoint → Type 0
+    On u = (length (port_of u.at).given ≡ g) × ((k : Ends c service tei 0 ranged u.at) → KeptAt u k)
+
+    on-then : (S M : ℕ) (u v : TimedEndpoint) → (length (port_of u.at).given ≡ g) → Goes c service tei 0 ranged lengths rate S M u v → (k : Ends c service tei 0 ranged v.at) × KeptAt v k → On v
+    on-then S M u v given g then = (ap (λ (p : Port). length p.given) g.port ∙ given, λ k. kept-same c service tei ranged lengths rate low most way heard m base v then.0 k then.1)
+
+    -- The moment comes.
+    module _ (transit moment n S M : ℕ) (rs : List Request) (a : TimedEndpoint) (h : (EndOk c service tei 0 ranged lengths rate S M a)) (rests : Rests a) (now_low : a.clock.now ≤ moment) (high : moment ≤ a.clock.now + 1)
+        (counts : Counts service tei transit lengths rate c ranged n a) (soon : n + 1 ≤ (moment + 1) * rate) (all : All IsBoth rs) (of_link : All (IsOfLink service tei) rs) (here : n ≡ g) where
+      pub comes-kept : KeptAt a h.but.ends → (k : Ends c service tei 0 ranged (comes_to moment rs a).at) → KeptAt (comes_to moment rs a) k
+      comes-kept x k =
+          let t = at_time moment a in let ok = at-moment service tei transit lengths rate c ranged moment n S M rs a h rests now_low high counts soon of_link in let given = counts.given in
+          let at_first : KeptAt t ok.but.ends = kept-same c service tei ranged lengths rate low most way heard m base t h.but.ends ok.but.ends (record { low_lost = x.low_lost; rings = x.rings; said = x.said; due = x.due }) in
+          (all-keep c service tei 0 ranged lengths rate On IsBoth (λ r is. is.0) (λ r u S M ok g is on. on-then S M u (asks u r) on.0 g (asks-one r S M u ok (on.1 ok.but.ends) is))
+          (λ e u S M ok g is on. let many = on.0 in
+          on-then S M u (falls u e) on.0 g (falls-kept c service tei ranged lengths rate low most way heard m base u S M ok (on.1 ok.but.ends) e is (omega (arith, many, low_given)) (omega (arith, many, soon_given))))
+          S M moment rs all a ok (omega (arith, given, soon)) (given ∙ here, λ k. kept-same c service tei ranged lengths rate low most way heard m base t ok.but.ends k at_first)).1.1 k
+
+  -- An octet is pulled.
+  module _ (a : TimedEndpoint) (S M : ℕ) (h : (EndOk c service tei 0 ranged lengths rate S M a)) (x : KeptAt a h.but.ends) (y : Pulled c service tei 0 ranged a.at h.but.ends) (few : heard ≤ length (port_of a.at).given) where
+    same-state-rings : y.ends.its.state ≡ h.but.ends.its.state
+    same-state-rings = grind (arith, offer-stays)
+
+    on-pull : state_number h.but.ends.its.state ≡ 5 → state_number y.ends.its.state ≡ 5 → runs_at c service tei ranged lengths rate (happens port.pull a) ≡ runs_at c service tei ranged lengths rate a
+    on-pull five then = by-bool (is_due (port_of a.at))
+        (λ e. on-runs c service tei ranged lengths rate a port.pull S M h.but line.next (ap (λ b. cond b (Some line.next) None) e) refl y.ends five then) (λ e.
+        ap (λ os. moment_of a.at.line (timers.T200 service tei) (obeyed a.at.line os a.clock).running)
+        (orders-are (octet_at a.at.line port.pull) a.at.card None (ap (λ b. cond b (Some line.next) None) e)))
+
+    pub pull-kept : KeptAt (happens port.pull a) y.ends
+    pull-kept =
+        let more = lost-more port.pull a.at in let low_is = x.low_lost in
+        record {
+          low_lost = omega (arith, more, low_is);
+          rings = subst Rings (sym same-state-rings) x.rings;
+          said = λ four none. x.said (ap state_number (sym same-state-rings) ∙ four) (untold-parts a.at.told _ none).0;
+          due = λ few_lost five. go (ap state_number (sym same-state-rings) ∙ five) five (x.due (omega (arith, more, few_lost)) (ap state_number (sym same-state-rings) ∙ five));
+        }
+      where
+        go : state_number h.but.ends.its.state ≡ 5 → state_number y.ends.its.state ≡ 5 → IsDue c service tei ranged lengths rate low most way heard m base a h.but.ends
+            → IsDue c service tei ranged lengths rate low most way heard m base (happens port.pull a) y.ends
+        go was five (inl runs_now) = inl (on-pull was five ∙ runs_now)
+        go was five (inr due) = inr (due-pull c service tei 0 ranged establishes low most way heard a.at h.but.ends y few due)

@@ -1,7 +1,7 @@
 -- Two ends of the circuit without noise, as two stations: what is done at one of them, on the circuit and on the wire of frames.
 use Rattle.laws_time.proofs.Vocabulary.{All, All-cons, All-nil, All-weaker, AreOctets, AsksOctets, Bool, Config, Fits, IsOnItsWay, IsSoundPort, List, None, OctetEndpoint as Endpoint, Option, Port, Ran, Request, Service, Some, StreamEvent, Wire, [], ap, append-nil, append_assoc, append_cancel_right, arith, as_endpoint, asked-as, came, cond, config, drop, false, flat_map, framed, fresh_port, gained}
 use Rattle.laws_time.proofs.Vocabulary.{given_in, goes-on, heard-as, heard_in, heard_with, if_meant, is_due, item_of, item_text, left_of, length, length-append, next_of_card, none-heard, on-line, one-heard, option_map, option_to_list, port-after, port_of, pull-between, pull-put, pull-received, pulled-as, refl, replicate, sound-port, subst, sym, true, wire_doing_all, within-ports, ℕ, ◌++◌, ◌+◌}
-use Rattle.laws_time.proofs.Vocabulary.{◌∙◌, ◌∷◌, ◌≡◌}
+use Rattle.laws_time.proofs.Vocabulary.{◌∙◌, ◌∷◌, ◌≡◌, by-option}
 use Rattle.model_bits.specs.Stream as stream
 use Rattle.model_line.specs.Event as line
 use Rattle.model_card.specs.ports.Port as port
@@ -11,8 +11,7 @@ use Rattle.laws_wire.specs.Wire as wire
 use Rattle.laws_order.specs.circuit.Circuit.{happens}
 use Rattle.laws_time.proofs.OfCircuit.AckedCall.{sum_all, near_sends, far_sends}
 use Rattle.laws_time.proofs.OfCircuit.AckedWire.{one_if_any, near_takes, far_takes}
-use Rattle.laws_time.proofs.OfCircuit.AnsweredClear.{flags-before, begins-so, gained-there}
-use Rattle.laws_time.proofs.OfCircuit.ArrivWay.{flagged, Flow, pulled-goes}
+use Rattle.laws_time.proofs.OfCircuit.ArrivWay.{flags-before, begins-so, gained-there, flagged, Flow, pulled-goes}
 
 -- ---- one direction
 
@@ -34,13 +33,10 @@ module _ (n201 k : ℕ) (p : Port) (value : ℕ) (more received : List ℕ) (fra
 
   pub brings : (e : stream.Event) → gained n201 received value ≡ Some e → Brings e
   brings e gains =
-      let text = sym sound.text.text in
-      let t = flat_map item_text p.items in
-      let H = heard_in n201 received in
+      let text = sym sound.text.text in let t = flat_map item_text p.items in let H = heard_in n201 received in
       let x = gained-there n201 k p.given received value more (left_of p) t e text h.given gains in
       let same : received ≡ replicate k 0x7E ++ x.0 =
-      append_cancel_right received (replicate k 0x7E ++ x.0) (value ∷ more)
-      (sym h.given ∙ ap (λ g. replicate k 0x7E ++ g) x.1 ∙ sym (append_assoc (replicate k 0x7E) x.0 (value ∷ more))) in
+      append_cancel_right received (replicate k 0x7E ++ x.0) (value ∷ more) (sym h.given ∙ ap (λ g. replicate k 0x7E ++ g) x.1 ∙ sym (append_assoc (replicate k 0x7E) x.0 (value ∷ more))) in
       let silent = flags-before n201 k x.0 (begins-so n201 p.given x.0 (value ∷ more) (left_of p) t text x.1) in
       let y = one-heard n201 p (value ∷ more) x.0 frames (record { given = x.1; are = h.are ∙ ap (λ es. es ++ framed frames) (ap (heard_in n201) same ∙ silent); octets = h.octets }) sound on value more e refl x.2 in
       record {
@@ -184,10 +180,8 @@ module _ (Q : Request → Type 0) (n201 k : ℕ) (c d : Config) (fits : Fits n20
 
   pub asks-one : (q : Request) → AsksOctets (port.request q) → Q q → (ws wr : List ℕ) (there back : List (List ℕ)) → Joined n201 k c d s r ws wr there back → Does ws wr there back (happens (port.request q) s) ws wr
   asks-one q octets is ws wr there back h =
-      let s' = happens (port.request q) s in
-      let same = port-after s (port.request q) (within-ports c fits.ranged s h.near) in
-      let f = wire_of s r there back in let step = wire.at_near (wire.requests q) in
-      let takes = sum-one near_takes step f in let puts = sum-one near_sends step f in
+      let s' = happens (port.request q) s in let same = port-after s (port.request q) (within-ports c fits.ranged s h.near) in
+      let f = wire_of s r there back in let step = wire.at_near (wire.requests q) in let takes = sum-one near_takes step f in let puts = sum-one near_sends step f in
       let heard = ap (λ (p : Port). length (heard_in n201 p.received)) same in let put = ap (λ (p : Port). length p.items) same in
       record {
         there' = there;
@@ -212,8 +206,7 @@ module _ (Q : Request → Type 0) (n201 k : ℕ) (c d : Config) (fits : Fits n20
 
   pulled-put : Ran c s → (due : Bool) → is_due (port_of s) ≡ due → (f : Wire)
       → (0 ≡ sum_all near_takes (near_of (cond due (Some wire.sends) None)) f) × (put_at (happens port.pull s) ≡ put_at s + sum_all near_sends (near_of (cond due (Some wire.sends) None)) f)
-  pulled-put ran false is f =
-      let put = ap length (pull-between n201 c fits s ran is).1 in let puts = sum-none near_sends f in (sym (sum-none near_takes f), omega (arith, put, puts))
+  pulled-put ran false is f = let put = ap length (pull-between n201 c fits s ran is).1 in let puts = sum-none near_sends f in (sym (sum-none near_takes f), omega (arith, put, puts))
   pulled-put ran true is f =
       let i = item_of (given_in (next_of_card s.line s.card.card)) in
       let put = ap length (pull-put n201 c fits s ran is) ∙ length-append (port_of s).items (i ∷ []) in let puts = sum-one near_sends (wire.at_near wire.sends) f in
@@ -228,8 +221,7 @@ module _ (Q : Request → Type 0) (n201 k : ℕ) (c d : Config) (fits : Fits n20
 
   pub pulls-one : (ws wr : List ℕ) → s.way ≡ ws → (there back : List (List ℕ)) → Joined n201 k c d s r ws wr there back → Does ws wr there back (happens port.pull s) (happens port.pull s).way wr
   pulls-one ws wr is there back h =
-      let due = is_due (port_of s) in
-      let x = pulled-put h.near due refl (wire_of s r there back) in
+      let due = is_due (port_of s) in let x = pulled-put h.near due refl (wire_of s r there back) in
       let takes = x.0 in let heard = ap (λ os. length (heard_in n201 os)) (pull-received n201 c fits s h.near) in
       record {
         there' = (if_meant (cond due (Some line.next) None) (as_endpoint there s)).way;
@@ -275,35 +267,31 @@ module _ (Q : Request → Type 0) (n201 k : ℕ) (c d : Config) (fits : Fits n20
         ∙ ap (λ o. if_meant (option_map line.hears o) (as_endpoint there s)) e
 
     pub hears-one : Does ws (value ∷ more) there back (happens (port.octet value) s) ws more
-    hears-one = go (gained n201 (port_of s).received value) refl
-      where
-        go : (o : Option StreamEvent) → gained n201 (port_of s).received value ≡ o → Does ws (value ∷ more) there back (happens (port.octet value) s) ws more
-        go None e =
-            let a = heard-long None e in let takes = sum-none near_takes (wire_of s r there back) in let puts = sum-none near_sends (wire_of s r there back) in let b = put-same in
-            record {
-              there' = there;
-              back' = back;
-              joined = record { near = goes-on c s (port.octet value) tt h.near; far = h.far; goes = goes-same; comes = comes-then back (none-heard n201 (flagged k (port_of r)) (value ∷ more) (port_of s).received back h.comes value more refl e) };
-              o = None;
-              talk = tt;
-              same = does-none (wire_of s r there back) ∙ (λ i. record { near = sym (station-then None e) i; far = as_endpoint back r });
-              heard = omega (arith, a, takes);
-              put = omega (arith, b, puts);
-            }
-        go (Some event) e =
-            let sound = subst (λ n. IsSoundPort n (port_of r)) fits_far.size (sound-port d fits_far.ranged r h.far) in
-            let x = brings n201 k (port_of r) value more (port_of s).received back h.comes sound (on-line d fits_far.ranged r h.far) event e in
-            let step = wire.at_near wire.receives in
-            let a = heard-long (Some event) e in let takes = sum-one near_takes step (wire_of s r there back) ∙ ap one_if_any x.are in let puts = sum-one near_sends step (wire_of s r there back) in let b = put-same in
-            let size = ap (λ (k : Config). came k.n201 x.first) (config c fits.ranged s h.near) ∙ ap (λ n. came n x.first) fits.size ∙ x.whole ∙ sym x.event in
-            record {
-              there' = there;
-              back' = x.rest;
-              joined = record { near = goes-on c s (port.octet value) tt h.near; far = h.far; goes = goes-same; comes = comes-then x.rest x.flow };
-              o = Some wire.receives;
-              talk = tt;
-              same = does-one step (wire_of s r there back) ∙ (λ i. record { near = wire.with_first_of (x.are i) (as_endpoint there s); far = as_endpoint (drop 1 (x.are i)) r })
-                  ∙ (λ i. record { near = (ap (λ e. wire.happens (line.hears e) (as_endpoint there s)) size ∙ sym (station-then (Some event) e)) i; far = as_endpoint x.rest r });
-              heard = omega (arith, a, takes);
-              put = omega (arith, b, puts);
-            }
+    hears-one = by-option (gained n201 (port_of s).received value) (λ e.
+        let a = heard-long None e in let takes = sum-none near_takes (wire_of s r there back) in let puts = sum-none near_sends (wire_of s r there back) in let b = put-same in
+        record {
+          there' = there;
+          back' = back;
+          joined = record { near = goes-on c s (port.octet value) tt h.near; far = h.far; goes = goes-same; comes = comes-then back (none-heard n201 (flagged k (port_of r)) (value ∷ more) (port_of s).received back h.comes value more refl e) };
+          o = None;
+          talk = tt;
+          same = does-none (wire_of s r there back) ∙ (λ i. record { near = sym (station-then None e) i; far = as_endpoint back r });
+          heard = omega (arith, a, takes);
+          put = omega (arith, b, puts);
+        })
+        (λ event e.
+        let sound = subst (λ n. IsSoundPort n (port_of r)) fits_far.size (sound-port d fits_far.ranged r h.far) in
+        let x = brings n201 k (port_of r) value more (port_of s).received back h.comes sound (on-line d fits_far.ranged r h.far) event e in let step = wire.at_near wire.receives in
+        let a = heard-long (Some event) e in let takes = sum-one near_takes step (wire_of s r there back) ∙ ap one_if_any x.are in let puts = sum-one near_sends step (wire_of s r there back) in let b = put-same in
+        let size = ap (λ (k : Config). came k.n201 x.first) (config c fits.ranged s h.near) ∙ ap (λ n. came n x.first) fits.size ∙ x.whole ∙ sym x.event in
+        record {
+          there' = there;
+          back' = x.rest;
+          joined = record { near = goes-on c s (port.octet value) tt h.near; far = h.far; goes = goes-same; comes = comes-then x.rest x.flow };
+          o = Some wire.receives;
+          talk = tt;
+          same = does-one step (wire_of s r there back) ∙ (λ i. record { near = wire.with_first_of (x.are i) (as_endpoint there s); far = as_endpoint (drop 1 (x.are i)) r })
+              ∙ (λ i. record { near = (ap (λ e. wire.happens (line.hears e) (as_endpoint there s)) size ∙ sym (station-then (Some event) e)) i; far = as_endpoint x.rest r });
+          heard = omega (arith, a, takes);
+          put = omega (arith, b, puts);
+        })

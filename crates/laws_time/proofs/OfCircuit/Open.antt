@@ -1,15 +1,13 @@
 -- What is under way from an end, and until when T200 runs there: after each event.
-use Rattle.laws_time.proofs.Vocabulary.{All, All-head, All-tail, AllByRecursion, Bool, Config, Control, ControlFrame, IsInRange, IsWaitingFrame, Item, Link, LinkEvent, LinkIsSound, List, OctetEndpoint, Parts, Service, StationStands, [], ap, arith, as_endpoint, as_heard, bits, event-follows, false, few-left, frame, inl, inr, is_final, item_text, left_of, length, length-append}
+use Rattle.laws_time.proofs.Vocabulary.{all-right, All, All-head, All-tail, AllByRecursion, Bool, Config, Control, ControlFrame, IsInRange, IsWaitingFrame, Item, Link, LinkEvent, LinkIsSound, List, OctetEndpoint, Parts, Service, StationStands, [], ap, arith, as_endpoint, as_heard, bits, event-follows, false, few-left, frame, inl, inr, is_final, item_text, left_of, length, length-append}
 use Rattle.laws_time.proofs.Vocabulary.{length-bits, length-check, length-map, link-sound, link_cleared as cleared, list_any, longest_text, map, map-append, offer, or-none, own_side, parts_of, port_of, put, reading, refl, room, spelling, subst, sym, take, terms, true, true≢false, ℕ, ◌*◌, ◌++◌, ◌+◌, ◌/◌, ◌∙◌, ◌∷◌, ◌≡◌, ◌≤◌}
 use Rattle.lapd_frame.proofs.Naming.{reading-again}
 use Rattle.model_bits.specs.Stuffing.{stuffed}
 use Rattle.model_link.specs.Link.{frame_of}
 use Rattle.model_link.specs.Machine as links
 use Rattle.laws_time.specs.circuit.LongEnough.{is_of}
-use Rattle.laws_time.proofs.OfCircuit.Kinds.{asks}
-use Rattle.laws_time.proofs.OfCircuit.Sender.{Sends, IsIn, text_length, wait-more, sends-with, sends-on, Takes, WaitIn}
+use Rattle.laws_time.proofs.OfCircuit.Sender.{asks, Sends, IsIn, text_length, wait-more, sends-with, sends-on, Takes, WaitIn, text, Took}
 use Rattle.laws_time.proofs.OfCircuit.Standing.{Ends, Pulled, pulls, bare, fine}
-use Rattle.laws_time.proofs.OfCircuit.Taken.{text, Took}
 
 -- A control frame takes at most 72 bits.
 pub stuffed-longest : (b : List Bool) → 5 * length (stuffed b) ≤ 6 * length b
@@ -42,16 +40,11 @@ module _ (c : Config) (service : Service) (tei place : ℕ) (ranged : IsInRange 
     pub text-kind : (f : ControlFrame) → IsWaitingFrame (terms c service tei) f → is_of kind c (text c service tei f) ≡ kind f.command f.control
     text-kind f w =
         ap (λ r. list_any (λ (f : Parts). kind f.address.command f.control) (parts_of r))
-        (reading-again (own_side c) (frame_of (terms c service tei) f) (text c service tei f) (record { is_frame = w.is_frame; octets_are = refl }))
-        ∙ or-none (kind f.command f.control)
+        (reading-again (own_side c) (frame_of (terms c service tei) f) (text c service tei f) (record { is_frame = w.is_frame; octets_are = refl })) ∙ or-none (kind f.command f.control)
 
-    abbrev IsNotOf : ControlFrame → Type 0
-    IsNotOf f = kind f.command f.control ≡ false
-
-    none-in : (fs : List ControlFrame) → All (IsWaitingFrame (terms c service tei)) fs → AllByRecursion IsNotOf fs → (o : List ℕ) → IsIn o (map (text c service tei) fs) → is_of kind c o ≡ true → ⊥
+    none-in : (fs : List ControlFrame) → All (IsWaitingFrame (terms c service tei)) fs → AllByRecursion (λ f. kind f.command f.control ≡ false) fs → (o : List ℕ) → IsIn o (map (text c service tei) fs) → is_of kind c o ≡ true → ⊥
     none-in [] all none o has is = absurd has
-    none-in (f ∷ fs) all none o (inl same) is =
-        true≢false (sym is ∙ ap (is_of kind c) (sym same) ∙ text-kind f (All-head (IsWaitingFrame (terms c service tei)) f fs all) ∙ none.0)
+    none-in (f ∷ fs) all none o (inl same) is = true≢false (sym is ∙ ap (is_of kind c) (sym same) ∙ text-kind f (All-head (IsWaitingFrame (terms c service tei)) f fs all) ∙ none.0)
     none-in (f ∷ fs) all none o (inr has) is = none-in fs (All-tail (IsWaitingFrame (terms c service tei)) f fs all) none.1 o has is
 
     -- An end puts control frames: of the kind none, or it may do so by now.
@@ -61,12 +54,8 @@ module _ (c : Config) (service : Service) (tei place : ℕ) (ranged : IsInRange 
       sound = link-sound service tei place (as_endpoint [] u) (bare c service tei place ranged k.its)
           (subst (λ d. StationStands d service tei place (as_endpoint [] u) (bare c service tei place ranged k.its)) (sym k.stands.config) k.stands)
 
-      all-puts : (xs ys : List ControlFrame) → All (IsWaitingFrame (terms c service tei)) (xs ++ ys) → All (IsWaitingFrame (terms c service tei)) ys
-      all-puts [] ys all = all
-      all-puts (x ∷ xs) ys all = all-puts xs ys (All-tail (IsWaitingFrame (terms c service tei)) x (xs ++ ys) all)
-
       frames : All (IsWaitingFrame (terms c service tei)) puts
-      frames = all-puts h.its.waiting puts (subst (All (IsWaitingFrame (terms c service tei))) more sound.frames)
+      frames = all-right (IsWaitingFrame (terms c service tei)) h.its.waiting puts (subst (All (IsWaitingFrame (terms c service tei))) more sound.frames)
 
       ring-is : ring k.its ≡ ring h.its ++ map (text c service tei) puts
       ring-is = ap (map (text c service tei)) more ∙ map-append (text c service tei) h.its.waiting puts
@@ -82,17 +71,13 @@ module _ (c : Config) (service : Service) (tei place : ℕ) (ranged : IsInRange 
           let p = port_of s in let all = ap length (fine c service tei place ranged s h).sound.text.text ∙ length-append (bits p.given) (left_of p) in
           let few = few-left c ranged s h.ran in omega (arith, all, length-bits p.given, few)
 
-      pub puts-none : AllByRecursion IsNotOf puts → Sends c.n201 (is_of kind c) most (port_of s) (ring h.its) → Sends c.n201 (is_of kind c) most (port_of u) (ring k.its)
+      pub puts-none : AllByRecursion (λ f. kind f.command f.control ≡ false) puts → Sends c.n201 (is_of kind c) most (port_of s) (ring h.its) → Sends c.n201 (is_of kind c) most (port_of u) (ring k.its)
       puts-none none s_ok =
-          sends-with c.n201 (is_of kind c) most (port_of s) (port_of u) (ring h.its) (ring k.its) items given
-          (subst (WaitIn c.n201 (is_of kind c) most (text_length (port_of s).items)) (sym ring-is)
-          (wait-more c.n201 (is_of kind c) most (text_length (port_of s).items) (ring h.its) (map (text c service tei) puts) s_ok.wait
-          (λ o has is. absurd (none-in puts frames none o has is)))) s_ok
+          sends-with c.n201 (is_of kind c) most (port_of s) (port_of u) (ring h.its) (ring k.its) items given (subst (WaitIn c.n201 (is_of kind c) most (text_length (port_of s).items)) (sym ring-is)
+          (wait-more c.n201 (is_of kind c) most (text_length (port_of s).items) (ring h.its) (map (text c service tei) puts) s_ok.wait (λ o has is. absurd (none-in puts frames none o has is)))) s_ok
 
       pub puts-by-now : length (port_of s).given + half ≤ most → Sends c.n201 (is_of kind c) most (port_of s) (ring h.its) → Sends c.n201 (is_of kind c) most (port_of u) (ring k.its)
-      puts-by-now soon s_ok =
-          let few = lengths in let room_left = fits in let short = text-short in
-          grind (arith, sends-with, is_of, port_of, text_length, ring-is, wait-more, map, text)
+      puts-by-now soon s_ok = let few = lengths in let room_left = fits in let short = text-short in grind (arith, sends-with, is_of, port_of, text_length, ring-is, wait-more, map, text)
 
     -- A pull.
     module _ (plain : (p : Parts) → (asks p.address.command p.control ≡ false) × (is_final p.address.command p.control ≡ false) → kind p.address.command p.control ≡ false)

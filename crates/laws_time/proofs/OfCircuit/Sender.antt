@@ -1,7 +1,15 @@
 -- Up to which octet a port gives frames of a kind, that are on its line, or wait to be put there.
-use Rattle.laws_time.proofs.Vocabulary.{All, All-head, All-tail, AreOctets, Bool, GoOut, IsCut, IsOnItsWay, IsSoundPort, Item, List, Port, Some, StreamEvent as Event, [], all_exact, ap, append-nil, append_assoc, append_cancel_left, arith, bits, cut_sent, false, flat_map, frame, framed, frames_among, frames_among-append, frames_sent, gained, heard-beyond, heard_in, heard_whole, heard_with, idle}
-use Rattle.laws_time.proofs.Vocabulary.{inl, inr, item_text, left_of, length, length-append, length-bits, line_text, line_text-push, map, map-append, option_to_list, refl, same_from_push, same_text, sent, some-in, stream_frame, subst, sym, true, true≢false, ℕ, ◌*◌, ◌++◌, ◌+◌, ◌∙◌, ◌∷◌, ◌≡◌, ◌≤◌, ◌⊎◌}
+use Rattle.laws_time.proofs.Vocabulary.{All, All-head, All-tail, AllByRecursion, AreOctets, Bool, Config, Control, ControlFrame, Course, Disc, GoOut, Information, IsCarried, IsCut, IsOnItsWay, IsSoundPort, Item, Link, LinkEvent, List, NextFrame, None, Ok, Option, Parts, Port, Sabme, Service, Some, State, StreamEvent as Event, T200, Terms, [], all_exact, answers, ap, append-nil, append_assoc}
+use Rattle.laws_time.proofs.Vocabulary.{append_cancel_left, arith, as_heard, bit_of, bits, changed, commands, cond, cut_sent, false, flat_map, frame, frame_given, framed, frames_among, frames_among-append, frames_sent, gained, give_information, given_of, heard-beyond, heard_in, heard_whole, heard_with, idle, inl, inr, is_awaiting_acknowledgement, is_final, is_time, item_of, item_text, left_of}
+use Rattle.laws_time.proofs.Vocabulary.{length, length-append, length-bits, line_text, line_text-push, map, map-append, may_send_information, moves, offer_among, option_to_list, own_side, put, reading, received, refl, same_from_push, same_text, send_acknowledgement, sent, some-in, spelling, stream_frame, subst, suc, sym, take, terms, true, true≢false, with_one_sent, zero, ℕ, ◌&&◌, ◌*◌, ◌++◌, ◌+◌}
+use Rattle.laws_time.proofs.Vocabulary.{◌||◌, ◌∙◌, ◌∷◌, ◌≡◌, ◌≤◌, ◌⊎◌}
+use Rattle.model_link.specs.Events as link
+use Rattle.model_link.specs.Machine as links
 use Rattle.laws_order.proofs.Vocabulary.{go_out, all_out}
+use Rattle.model_link.specs.Events.{frame as frame_of_kind}
+use Rattle.model_link.specs.Steps.{begun}
+use Rattle.model_link.specs.Words.{pending_is, start}
+use Rattle.model_link.specs.Link.{frame_of}
 
 same-frame : (f g : List ℕ) → stream_frame f ≡ stream_frame g → f ≡ g
 same-frame f g is = cc is
@@ -31,24 +39,17 @@ module _ (n201 : ℕ) where
     pub octets : All AreOctets (frames_among p.items)
 
   module _ (p : Port) (h : Fine p) where
-    exact : frames_among (map sent p.items) ≡ frames_among p.items
-    exact = frames_sent p.items ∙ all_exact (frames_among p.items) h.octets
-
     pub out : GoOut n201 p.given (frames_among p.items)
     out =
-        subst (GoOut n201 p.given) exact
+        subst (GoOut n201 p.given) (frames_sent p.items ∙ all_exact (frames_among p.items) h.octets)
         (go_out n201 (map sent p.items) p.given (left_of p) (same_text p.items ∙ h.sound.text.text) (heard_whole n201 p.items h.on.long h.sound.sizes) (cut_sent p.items p.given h.on.cut))
 
     -- What is heard in what it gave is one of its frames.
     pub its-frame : (P : List ℕ → Type 0) → All P (frames_among p.items) → (before : List ℕ) (value : ℕ) (more : List ℕ) (e : Event) → p.given ≡ before ++ value ∷ more → gained n201 before value ≡ Some e
         → (o : List ℕ) × (e ≡ stream_frame o) × P o
     its-frame P all before value more e given is =
-        let now = before ++ value ∷ [] in
-        let heard = heard_in n201 before in
-        let beyond = heard-beyond n201 now more in
-        let on = framed out.on_its_way in
-        one-framed P (frames_among p.items) heard (beyond.0 ++ on) e
-        (out.heard ∙ ap (λ g. heard_in n201 g ++ on) (given ∙ sym (append_assoc before (value ∷ []) more))
+        let now = before ++ value ∷ [] in let heard = heard_in n201 before in let beyond = heard-beyond n201 now more in let on = framed out.on_its_way in
+        one-framed P (frames_among p.items) heard (beyond.0 ++ on) e (out.heard ∙ ap (λ g. heard_in n201 g ++ on) (given ∙ sym (append_assoc before (value ∷ []) more))
         ∙ ap (λ l. l ++ on) (beyond.1 ∙ ap (λ l. l ++ beyond.0) (heard_with n201 before value ∙ ap (λ e. heard ++ option_to_list e) is))
         ∙ append_assoc (heard ++ e ∷ []) beyond.0 on ∙ append_assoc heard (e ∷ []) (beyond.0 ++ on)) all
 
@@ -57,7 +58,7 @@ module _ (n201 : ℕ) where
 
     pub all-given : (front : List Item) → p.items ≡ front ++ idle ∷ [] → framed (frames_among p.items) ≡ heard_in n201 p.given
     all-given front is =
-        subst (λ frames. framed frames ≡ heard_in n201 p.given) exact
+        subst (λ frames. framed frames ≡ heard_in n201 p.given) (frames_sent p.items ∙ all_exact (frames_among p.items) h.octets)
         (all_out n201 (map sent p.items) p.given (left_of p) (same_text p.items ∙ h.sound.text.text) (heard_whole n201 p.items h.on.long h.sound.sizes)
         (map sent front) (ap (map sent) is ∙ map-append sent front (idle ∷ [])) (cut_sent p.items p.given h.on.cut))
 
@@ -152,10 +153,7 @@ module _ (n201 : ℕ) where
         → ((o : List ℕ) → IsIn o puts → kind o ≡ true → a + 72 * (length ring + length puts) + 1 ≤ 8 * (most + 1)) → WaitIn a (ring ++ puts)
     unfolding WaitIn
     wait-more a [] [] h bound = tt
-    wait-more a [] (o ∷ puts) h bound = (
-      (λ is. let b = bound o (inl refl) is in omega (arith, b)),
-      wait-more (a + 72) [] puts tt (λ x has is. let b = bound x (inr has) is in omega (arith, b)),
-    )
+    wait-more a [] (o ∷ puts) h bound = ((λ is. let b = bound o (inl refl) is in omega (arith, b)), wait-more (a + 72) [] puts tt (λ x has is. let b = bound x (inr has) is in omega (arith, b)))
     wait-more a (o ∷ ring) puts h bound = (h.0, wait-more (a + 72) ring puts h.1 (λ x has is. let b = bound x has is in omega (arith, b)))
 
     -- What else happens leaves the line as it is.
@@ -211,16 +209,11 @@ module _ (n201 : ℕ) where
           go (inr put) = taken put t
 
       pub sends-on : Sends q now
-      sends-on = record {
-        done = λ first w more o is gains kind_is. by-split first w more o (split p.given value first w more (sym g.given ∙ is)) gains kind_is;
-        last = last-now;
-        wait = wait-now t;
-      }
+      sends-on = record { done = λ first w more o is gains kind_is. by-split first w more o (split p.given value first w more (sym g.given ∙ is)) gains kind_is; last = last-now; wait = wait-now t }
         where
           by-split : (first : List ℕ) (w : ℕ) (more : List ℕ) (o : List ℕ) → Same p.given value first w more → gained n201 first w ≡ Some (stream_frame o) → kind o ≡ true → length first ≤ most
           by-split first w more o (inl x) gains kind_is =
-              subst (λ xs. length xs ≤ most) (sym x.0)
-              (now-done o (ap (λ v. gained n201 p.given v) (sym x.1) ∙ ap (λ xs. gained n201 xs w) (sym x.0) ∙ gains) kind_is)
+              subst (λ xs. length xs ≤ most) (sym x.0) (now-done o (ap (λ v. gained n201 p.given v) (sym x.1) ∙ ap (λ xs. gained n201 xs w) (sym x.0) ∙ gains) kind_is)
           by-split first w more o (inr x) gains kind_is = s.done first w x.0 o x.1 gains kind_is
 
           wait-now : Takes new ring now → WaitIn (text_length q.items) now
@@ -244,14 +237,12 @@ module _ (n201 : ℕ) where
               by-new (inr (inl x)) =
                   let own : x.0 ≡ o = last-item p.items front x.0 o (ap (λ more. p.items ++ more) (sym x.1) ∙ sym g.items ∙ is) in
                   let more = text-more in let bound = x.3 in let all = ap (λ is. length (flat_map item_text is)) x.1 in let one = ap length (append-nil (item_text (frame x.0))) in
-                  let first = first-bound (text_length p.items) x.0 now (subst (WaitIn (text_length p.items)) x.2 s.wait) (ap kind own ∙ kind_is) in
-                  omega (arith, more, all, one, bound, first)
+                  let first = first-bound (text_length p.items) x.0 now (subst (WaitIn (text_length p.items)) x.2 s.wait) (ap kind own ∙ kind_is) in omega (arith, more, all, one, bound, first)
               by-new (inr (inr x)) = by-item new g.few g.items x.1
                 where
                   by-item : (new : List Item) → length new ≤ 1 → q.items ≡ p.items ++ new → ((o : List ℕ) → new ≡ frame o ∷ [] → kind o ≡ false) → text_length q.items + 1 ≤ 8 * (most + 1)
                   by-item [] few items none =
-                      let same : q.items ≡ p.items = items ∙ append-nil p.items in
-                      subst (λ items. text_length items + 1 ≤ 8 * (most + 1)) (sym same) (s.last front o (sym same ∙ is) kind_is)
+                      let same : q.items ≡ p.items = items ∙ append-nil p.items in subst (λ items. text_length items + 1 ≤ 8 * (most + 1)) (sym same) (s.last front o (sym same ∙ is) kind_is)
                   by-item (i ∷ []) few items none = absurd (true≢false (sym kind_is ∙ none o (ap (λ i. i ∷ []) (same_from_push p.items front i (frame o) (sym items ∙ is)).1)))
                   by-item (i ∷ j ∷ more) few items none = absurd (omega (arith, few))
 
@@ -264,3 +255,117 @@ module _ (n201 : ℕ) where
 
     pub sends-later : (p : Port) (ring : List (List ℕ)) → Sends kind most p ring → Sends kind later p ring
     sends-later p ring h = grind (arith, wait-later)
+
+-- ---- which control frames of a kind an event puts, and what a call for the next frame gives of those that wait
+
+-- A frame that asks for an answer: a command with P=1.
+abbrev pub is_command : Control → Bool
+is_command (Information ns nr p) = true
+is_command (Sabme p) = true
+is_command (Disc p) = true
+is_command other = false
+
+abbrev pub asks : Bool → Control → Bool
+asks command control = bit_of control && (command || is_command control)
+
+abbrev pub is_asked : LinkEvent → Bool
+is_asked (received (frame_of_kind f)) = asks f.address.command f.control
+is_asked other = false
+
+-- No answer asks, and no command answers; what does not ask gets no answer with F=1.
+abbrev AsksNot : ControlFrame → Type 0
+AsksNot f = asks f.command f.control ≡ false
+
+abbrev EndsNot : ControlFrame → Type 0
+EndsNot f = is_final f.command f.control ≡ false
+
+answers-ask-not : (e : LinkEvent) (l : Link) → AllByRecursion AsksNot (answers e l)
+answers-ask-not e l = grind arith
+
+answers-end-not : (e : LinkEvent) (l : Link) → is_asked e ≡ false → AllByRecursion EndsNot (answers e l)
+answers-end-not e l none = grind arith
+
+commands-end-not : (e : LinkEvent) (l : Link) (to : State) → AllByRecursion EndsNot (commands e l to)
+commands-end-not e l to = grind arith
+
+both : (P : ControlFrame → Type 0) (xs ys : List ControlFrame) → AllByRecursion P xs → AllByRecursion P ys → AllByRecursion P (xs ++ ys)
+both P [] ys h g = g
+both P (x ∷ xs) ys h g = (h.0, both P xs ys h.1 g)
+
+pub first-of : (P : ControlFrame → Type 0) (n : ℕ) (xs : List ControlFrame) → AllByRecursion P xs → AllByRecursion P (take n xs)
+first-of P zero xs h = tt
+first-of P (suc n) [] h = tt
+first-of P (suc n) (x ∷ xs) h = (h.0, first-of P n xs h.1)
+
+pub put-asks-not : (e : LinkEvent) (l : Link) (to : State) → (moves l.state to || is_time e l) ≡ false → AllByRecursion AsksNot (put e l to)
+put-asks-not e l to none = both AsksNot (answers e l) (commands e l to) (answers-ask-not e l) (subst (AllByRecursion AsksNot) (sym ((ap (λ b. cond b (Rattle.laws_link.specs.Waiting.command_in to l) []) none))) tt)
+
+pub put-ends-not : (e : LinkEvent) (l : Link) (to : State) → is_asked e ≡ false → AllByRecursion EndsNot (put e l to)
+put-ends-not e l to none = both EndsNot (answers e l) (commands e l to) (answers-end-not e l none) (commands-end-not e l to)
+
+-- An overlong frame asks for nothing; else it is heard as it is.
+pub heard-asks : (t : Terms) (e : LinkEvent) → is_asked e ≡ false → is_asked (as_heard t e) ≡ false
+heard-asks t e none = grind arith
+
+pub heard-time : (t : Terms) (e : LinkEvent) (l : Link) → is_time (as_heard t e) l ≡ is_time e l
+heard-time t e l = grind arith
+
+-- ---- what a call for the next frame takes of the control frames that wait
+
+module _ (c : Config) (service : Service) (tei : ℕ) where
+  abbrev pub text : ControlFrame → List ℕ
+  text f = spelling (own_side c) (frame_of (terms c service tei) f)
+
+  abbrev pub IsPlain : Parts → Type 0
+  IsPlain p = (asks p.address.command p.control ≡ false) × (is_final p.address.command p.control ≡ false)
+
+  abbrev pub TookDue : List Item → List ControlFrame → List ControlFrame → Type 0
+  TookDue new ws now =
+      ((f : ControlFrame) × (new ≡ frame (text f) ∷ []) × (ws ≡ f ∷ now))
+      ⊎ ((now ≡ []) × ((o : List ℕ) → new ≡ frame o ∷ [] → (p : Parts) × (o ≡ spelling (own_side c) p) × (reading (own_side c) o ≡ Ok p) × IsPlain p) × (ws ≡ []))
+
+  abbrev pub Took : List Item → List ControlFrame → List ControlFrame → Type 0
+  Took new ws now = ((new ≡ []) × (now ≡ ws)) ⊎ TookDue new ws now
+
+  given-first : (l : Link) (f : ControlFrame) (fs : List ControlFrame) → l.waiting ≡ f ∷ fs
+      → (frame_given (terms c service tei) (links.given (terms c service tei) l) ≡ frame_of (terms c service tei) f ∷ []) × ((links.after (terms c service tei) link.offer l).waiting ≡ fs)
+  given-first l f fs is = grind arith
+
+  given-none : (l : Link) → l.waiting ≡ []
+      → ((links.after (terms c service tei) link.offer l).waiting ≡ []) × AllByRecursion IsPlain (frame_given (terms c service tei) (links.given (terms c service tei) l))
+  given-none l is = subst Plainly (sym is) (go (may_send_information (terms c service tei) l) l.pending (is_awaiting_acknowledgement l))
+    where
+      Plainly : List ControlFrame → Type 0
+      Plainly ws =
+          let x = offer_among (terms c service tei) ws (begun l) in (x.link.waiting ≡ []) × AllByRecursion IsPlain (frame_given (terms c service tei) (given_of (terms c service tei) l x x.sent))
+
+      by : Bool → Bool → Bool → Course
+      by may pending runs =
+          cond may (cond runs (pending_is false (changed with_one_sent (give_information (begun l)))) (start T200 (pending_is false (changed with_one_sent (give_information (begun l))))))
+          (cond pending (send_acknowledgement (begun l)) (begun l))
+
+      go : (may pending runs : Bool) → (((by may pending runs).link.waiting ≡ []) × AllByRecursion IsPlain (frame_given (terms c service tei) (given_of (terms c service tei) l (by may pending runs) (by may pending runs).sent)))
+      go true pending true = (is, ((refl, refl), tt))
+      go true pending false = (is, ((refl, refl), tt))
+      go false true runs = (is, ((refl, refl), tt))
+      go false false runs = (is, tt)
+
+  pub takes-now : (l : Link) (o : Option NextFrame) → frames_among (item_of o ∷ []) ≡ map (spelling (own_side c)) (frame_given (terms c service tei) (links.given (terms c service tei) l))
+      → All (IsCarried c service tei) (frame_given (terms c service tei) (links.given (terms c service tei) l))
+      → TookDue (item_of o ∷ []) l.waiting (links.after (terms c service tei) link.offer l).waiting
+  takes-now l o are carried = go l.waiting refl
+    where
+      named : (o : Option NextFrame) (octets : List ℕ) → frames_among (item_of o ∷ []) ≡ octets ∷ [] → item_of o ∷ [] ≡ frame octets ∷ []
+      named None octets is = cc is
+      named (Some g) octets is = ap (λ x. frame x ∷ []) (cc is)
+
+      plain : (fs : List Parts) → AllByRecursion IsPlain fs → All (IsCarried c service tei) fs → (octets : List ℕ) → octets ∷ [] ≡ map (spelling (own_side c)) fs
+          → (p : Parts) × (octets ≡ spelling (own_side c) p) × (reading (own_side c) octets ≡ Ok p) × IsPlain p
+      plain [] all own octets is = cc is
+      plain (p ∷ fs) all own octets is =
+          let same : octets ≡ spelling (own_side c) p = cc is in (p, same, ap (reading (own_side c)) same ∙ (All-head (IsCarried c service tei) p fs own).carried.read, all.0)
+
+      go : (ws : List ControlFrame) → l.waiting ≡ ws → TookDue (item_of o ∷ []) l.waiting (links.after (terms c service tei) link.offer l).waiting
+      go [] is =
+          let x = given-none l is in inr (x.0, λ octets put. plain (frame_given (terms c service tei) (links.given (terms c service tei) l)) x.1 carried octets (sym ((ap frames_among put)) ∙ are), is)
+      go (f ∷ fs) is = let x = given-first l f fs is in inl (f, named o (text f) (are ∙ ap (map (spelling (own_side c))) x.0), is ∙ ap (λ ws. f ∷ ws) (sym x.1))

@@ -1,8 +1,6 @@
 -- Hand-written answers for `timed_cards_are_cards`.
 use Rattle.laws_time.proofs.BesideACard.{keeps-up-with-frames, keeps-up-with-octets}
-use Rattle.laws_time.proofs.CallersClocks.{callers-clocks-are-clocks}
-use Rattle.laws_time.proofs.TimedCards.{timed-cards-are-cards}
-use Rattle.laws_time.proofs.DueFirst.{the-first-falls-due}
+use Rattle.laws_time.proofs.TimedCards.{callers-clocks-are-clocks, timed-cards-are-cards, the-first-falls-due}
 use Rattle.model_timed.specs.Frames.{frames}
 use Rattle.model_timed.specs.Octets.{octets}
 use Rattle.laws_time.proofs.cards.timed_cards_are_cards.Goals as goal

@@ -1,5 +1,5 @@
 -- Hand-written answers for `a_call_comes_in_time`.
-use Rattle.laws_time.proofs.OfCircuit.AckedTime.{a-call-comes-in-time, t203-falls-due-first}
+use Rattle.laws_time.proofs.OfCircuit.AckedBegun.{a-call-comes-in-time, t203-falls-due-first}
 use Rattle.laws_time.proofs.OfCircuit.Rested.{messages-come-in-time, t203-falls-due-first-since}
 use Rattle.laws_time.proofs.circuit.a_call_comes_in_time.Goals as goal
 

@@ -1,5 +1,5 @@
 -- Hand-written answers for `a_call_outlasts_noise`.
-use Rattle.laws_time.proofs.OfCircuit.InCallFair.{n200-lasts-in-a-call}
+use Rattle.laws_time.proofs.OfCircuit.InCallWalk.{n200-lasts-in-a-call}
 use Rattle.laws_time.proofs.OfCircuit.InCallUp.{a-call-outlasts-noise}
 use Rattle.laws_time.proofs.circuit.a_call_outlasts_noise.Goals as goal
 

@@ -1,6 +1,5 @@
 -- Hand-written answers for `a_call_takes_beats`.
-use Rattle.laws_time.proofs.OfCircuit.InBeats.{a-call-takes-beats, a-short-call-takes-beats}
-use Rattle.laws_time.proofs.OfCircuit.InBeatsRest.{messages-take-beats, short-messages-take-beats}
+use Rattle.laws_time.proofs.OfCircuit.InBeats.{a-call-takes-beats, a-short-call-takes-beats, messages-take-beats, short-messages-take-beats}
 use Rattle.laws_time.proofs.circuit.a_call_takes_beats.Goals as goal
 
 pub returns-clause-told : goal.returns-clause-told

@@ -1,7 +1,6 @@
 -- Hand-written answers for `an_answer_tells_what_came`.
 use Rattle.laws_time.proofs.OfCircuit.CaughtAll.{all-places-are-free}
-use Rattle.laws_time.proofs.OfCircuit.CaughtMet.{an-enquiry-meets-it}
-use Rattle.laws_time.proofs.OfCircuit.CaughtUp.{an-enquiry-catches-up, answers-tell-what-came}
+use Rattle.laws_time.proofs.OfCircuit.CaughtUp.{an-enquiry-meets-it, an-enquiry-catches-up, answers-tell-what-came}
 use Rattle.laws_time.proofs.circuit.an_answer_tells_what_came.Goals as goal
 
 pub returns-clause-came : goal.returns-clause-came

@@ -1,6 +1,5 @@
 -- Hand-written answers for `commands_are_answered`.
-use Rattle.laws_time.proofs.OfCircuit.Answered.{an-enquiry-is-answered, commands-are-answered}
-use Rattle.laws_time.proofs.OfCircuit.AnsweredOnce.{one-enquiry-is-enough}
+use Rattle.laws_time.proofs.OfCircuit.Answered.{an-enquiry-is-answered, commands-are-answered, one-enquiry-is-enough}
 use Rattle.laws_time.proofs.circuit.commands_are_answered.Goals as goal
 
 pub returns-clause-enquiries : goal.returns-clause-enquiries

@@ -1,6 +1,5 @@
 -- Hand-written answers for `frames_come_after_noise`.
-use Rattle.laws_time.proofs.OfCircuit.AgainKept.{noise-makes-no-frame-after}
-use Rattle.laws_time.proofs.OfCircuit.AgainLaw.{frames-come-after-noise}
+use Rattle.laws_time.proofs.OfCircuit.AgainLaw.{noise-makes-no-frame-after, frames-come-after-noise}
 use Rattle.laws_time.proofs.circuit.frames_come_after_noise.Goals as goal
 
 pub returns-clause-come : goal.returns-clause-come

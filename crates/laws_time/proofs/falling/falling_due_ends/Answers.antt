@@ -1,5 +1,5 @@
 -- Hand-written answers for `falling_due_ends`.
-use Rattle.laws_time.proofs.FallingDue.{falling-due-ends}
+use Rattle.laws_time.proofs.TimedCards.{falling-due-ends}
 use Rattle.model_timed.specs.Frames.{frames}
 use Rattle.model_timed.specs.Octets.{octets}
 use Rattle.laws_time.proofs.falling.falling_due_ends.Goals as goal

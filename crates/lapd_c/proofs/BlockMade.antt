@@ -1,20 +1,15 @@
 -- What a call that exchanges a block of octets comes to.
 use Rattle.std.specs.Prelude.{◌≢◌, ◌⊎◌, ◌-◌}
-use Rattle.lapd_c.proofs.Vocabulary.{◌≡◌, ◌≤◌, ◌<◌, ◌+◌, ◌*◌, ℕ, Bool, true, false, Option, None, Some, List, [], length, inl, inr, refl, sym, ap, subst, ◌∙◌, arith, OctetCard, LineTold, nothing, AnyCard, Octets, Frames, AnyStands, HeldCard, with_ports, answer_after, card_after, tells_nothing, false≢true}
+use Rattle.lapd_c.proofs.Vocabulary.{◌≡◌, ◌≤◌, ◌<◌, ◌+◌, ◌*◌, ℕ, Bool, true, false, None, Some, List, [], length, inl, inr, refl, sym, ap, subst, ◌∙◌, arith, OctetCard, LineTold, nothing, HeldCard, with_ports, answer_after, card_after, tells_nothing, false≢true}
 unfoldable use Rattle.lapd_c.proofs.Vocabulary.{given_after, steps_made}
 use Rattle.lapd_frame.specs.declared.timers.Order.{Order}
-use Rattle.lapd_timed.specs.declared.card_timers.CardTimers.{CardTimers}
 use Rattle.model_card.proofs.OfPorts.Fold.{run_is_moments}
-use Rattle.model_card.specs.ports.Event as octet_event
 use Rattle.model_card.specs.ports.Port.{Answer, told, refused, pulled}
-use Rattle.model_timed.specs.Clock.{Clock}
 use Rattle.lapd_c.specs.Answers.{ShowsReply}
 use Rattle.lapd_c.specs.BlockMade.{BlocksAreMade, IsEmpty}
 use Rattle.lapd_c.specs.Cards.{StandsIn, card_of}
-use Rattle.lapd_c.specs.Exchange.{ExchangedBy, ExchangedIn, IsThrough, TellsAtLast}
-use Rattle.model_timed.specs.Changes.{Marks, inside, marks_after}
-use Rattle.model_timed.specs.Octets as timed_octets
-use Rattle.lapd_c.specs.Kept.{CarryOutAll, ChangesStandIn, TimersStandIn, happen, is_timed, orders_by, reply_seen_by, timed_after, timers_of}
+use Rattle.lapd_c.specs.Exchange.{ExchangedIn, IsThrough, TellsAtLast}
+use Rattle.lapd_c.specs.Kept.{is_timed, orders_by, reply_seen_by}
 use Rattle.lapd_c.specs.Reports.{Shows, ShowsPull}
 use Rattle.lapd_c.specs.declared.plain.reports.PlainReport.{PlainReport}
 use Rattle.lapd_c.proofs.Blocks.{empty_if, quiet_at}
@@ -100,13 +95,9 @@ module _ (timed : Bool) (line from to : ℕ) (taken given given' : List ℕ) (m 
     octets : given' ≡ given_after line taken from n m given
     ended : IsThrough line taken from n m to r ⊎ TellsAtLast timed line taken from n m to r
 
-  made_by : (card : AnyCard) → ExchangedBy timed line taken from m card given given' to r → Made (λ (y : OctetCard). AnyStands card (with_ports y))
-  made_by (Octets c) x = record { n = x.n; within = x.within; there = x.stands; octets = x.octets; ended = x.ended }
-  made_by (Frames c) x = absurd x
-
   made_in : (held : HeldCard) → ExchangedIn timed line taken from m held given given' to r → Made (standing held)
   made_in None x = absurd x
-  made_in (Some kept) x = made_by kept.card x
+  made_in (Some kept) x = record { n = x.n; within = x.within; there = x.stands; octets = x.octets; ended = x.ended }
 
   module _ (stands : OctetCard → Type 0) (made : Made stands) where
     so_many : to ≡ from + made.n
@@ -150,19 +141,6 @@ module _ (timed : Bool) (line from to : ℕ) (taken given given' : List ℕ) (m 
           seen_pulled timed r value begun orders (subst (λ (a : Answer). ShowsReply r (reply_seen_by timed a)) (ap (λ (k : ℕ). answer_after line taken from k m) same ∙ answered) it.report)
     ]
 
--- a clock beside the card
-all_carried : (events : List octet_event.Event) (m : OctetCard) (o n : Option CardTimers) → CarryOutAll events m o n
-    → (c : Clock) → TimersStandIn o m.card c → TimersStandIn n (timed_after events m c).card.card (timed_after events m c).clock
-all_carried events m None n h c s = absurd s
-all_carried events m (Some timers) n h c s = h.timers c s
-
--- and what is noted of the links
-all_marked : (events : List octet_event.Event) (m : OctetCard) (o n : Option CardTimers) → CarryOutAll events m o n
-    → (c : Clock) (marks : Marks) → TimersStandIn o m.card c → ChangesStandIn o m.card marks
-    → ChangesStandIn n (timed_after events m c).card.card (marks_after timed_octets.octets inside (happen events) (record { card = m; clock = c }) marks)
-all_marked events m None n h c marks s k = absurd s
-all_marked events m (Some timers) n h c marks s k = h.noted c marks s k
-
 pub blocks_are_made : BlocksAreMade
 blocks_are_made line taken from to m old new result given given' r x =
     let made = made_in (is_timed old) line from to taken given given' m r (card_of new) x.exchanged in
@@ -171,8 +149,8 @@ blocks_are_made line taken from to m old new result given given' r x =
       within = made.within;
       stands = subst (standing (card_of new)) (run_is_moments.card m (steps_made line taken from (to - from)))
           (subst (λ (k : ℕ). standing (card_of new) (card_after line taken from k m)) many made.there);
-      timers = all_carried (steps_made line taken from (to - from)) m (timers_of old) (timers_of new) x.obeyed;
-      links = all_marked (steps_made line taken from (to - from)) m (timers_of old) (timers_of new) x.obeyed;
+      timers = x.obeyed.timers;
+      links = x.obeyed.noted;
       octets = made.octets ∙ ap (λ (k : ℕ). given_after line taken from k m given) many;
       counters = x.counted;
       quiet = are_quiet (is_timed old) line from to taken given given' m r (standing (card_of new)) made;

@@ -1,5 +1,5 @@
 -- A call comes to what `Called` says, by what is known of it.
-use Rattle.lapd_c.proofs.Vocabulary.{◌≡◌, ◌<◌, ◌≤◌, ◌+◌, ℕ, Bool, true, false, cond, List, option_map, Option, None, none-some, Some, IfSome, Result, Ok, IfOk, refl, sym, ap, ◌∙◌, subst, arith, false≢true, counters_in, KeptCard, Store, FrameCardStands}
+use Rattle.lapd_c.proofs.Vocabulary.{◌≡◌, ◌<◌, ◌≤◌, ◌+◌, ℕ, Bool, true, false, cond, List, option_map, Option, None, none-some, Some, IfSome, Result, Ok, IfOk, refl, sym, ap, ◌∙◌, subst, arith, false≢true, KeptCard, Store}
 use Rattle.std.proofs.Common.{Err, is_none, is_some}
 use Rattle.std.specs.Option.{unwrap_or}
 use Rattle.std.specs.Prelude.{◌≢◌}
@@ -36,10 +36,10 @@ use Rattle.lapd_c.specs.CalledBy.{Asked, Called, Happening, inside, IsCallOf, Se
 use Rattle.lapd_c.specs.Calls.{refusal_at}
 use Rattle.lapd_c.specs.Cards.{FramesStand, StandsIn, HandleStands, card_of, marks_at, marks_held, served_card, without_marks}
 use Rattle.lapd_c.specs.Counted.{counters_at, counters_held}
-use Rattle.lapd_c.specs.Kept.{CarryOut, orders_by, seen_by, timers_held, timers_of}
+use Rattle.lapd_c.specs.Kept.{CarryOut, TimersStandIn, orders_by, seen_by, timers_held, timers_of}
 use Rattle.lapd_c.specs.Reopened.{refused_place, WaitsFor}
 use Rattle.lapd_c.specs.declared.link_marks.LinkMarks.{LinkMarks}
-use Rattle.lapd_c.proofs.Served.{frames_counted, frames_there, there}
+use Rattle.lapd_c.proofs.Served.{there}
 use Rattle.lapd_card.specs.FrameCard as frames
 use Rattle.lapd_c.specs.Statuses as status
 use Rattle.lapd_c.specs.Statuses.{refusal_status}
@@ -48,7 +48,7 @@ use Rattle.lapd_c.specs.Wanted.{Wanted, of_any, of_octets, of_frames, of_untimed
 -- of which kind the card is
 pub octets_held : (held : HeldCard) (m : OctetCard) → StandsIn held (with_ports m) → option_map kind_of (option_map without_marks held) ≡ Some kinds.Octets
 octets_held None m s = absurd s
-octets_held (Some kept) m s = of_card kept.card s
+octets_held (Some kept) m s = of_card kept.timed.card s
   where
     of_card : (card : AnyCard) → AnyStands card (with_ports m) → Some (kind_of card) ≡ Some kinds.Octets
     of_card (Octets c) s = refl
@@ -87,9 +87,9 @@ refused_request line asked m = ap why_in (answer_is m line asked) ∙ why_told (
 -- What a card stands for, and what it has counted, is of that card alone.
 pub same_held : (a b : HeldCard) → option_map without_marks b ≡ option_map without_marks a → ((m : Machine) → StandsIn a m → StandsIn b m) × (counters_held b ≡ counters_held a)
 same_held None None is = (λ m s. s, refl)
-same_held None (Some b) is = absurd (none-some b.card (sym is))
-same_held (Some a) None is = absurd (none-some a.card is)
-same_held (Some a) (Some b) is = let same : b.card ≡ a.card = ap (λ o. unwrap_or o a.card) is in (λ m s. subst (λ card. AnyStands card m) (sym same) s, ap counters_of same)
+same_held None (Some b) is = absurd (none-some b.timed.card (sym is))
+same_held (Some a) None is = absurd (none-some a.timed.card is)
+same_held (Some a) (Some b) is = let same : b.timed.card ≡ a.timed.card = ap (λ o. unwrap_or o a.timed.card) is in (λ m s. subst (λ card. AnyStands card m) (sym same) s, ap counters_of same)
 
 -- Nothing changes where this is the same, with the timers and the links that wait; so where all is as it was, or where a card of frames
 -- stands for the same machine.
@@ -100,20 +100,14 @@ same_card line waits old new is timers marks = let same = same_held (card_of old
 pub as_it_was : (line : ℕ) (old new : CardHandle) → card_of new ≡ card_of old → Unchanged line None old new
 as_it_was line old new is = same_card line None old new (ap (option_map without_marks) is) (ap timers_held is) (ap marks_held is)
 
-pub same_frames : (line : ℕ) (old new : CardHandle) {kept : KeptCard} {c : frames.Held Store} → card_of old ≡ Some kept → kept.card ≡ Frames c → ((m : Card) → FrameCardStands c m → FramesStand new m)
-    → ((m : Card) → FrameCardStands c m → counters_at new ≡ counters_in c.lines) → timers_of new ≡ timers_of old → marks_at new ≡ marks_at old → Unchanged line None old new
-same_frames line old new is kind stays counted timers marks = record { stands = stand; counters = count; timers = timers; marks = marks }
+pub same_frames : (line : ℕ) (old new : CardHandle) {kept : KeptCard} {c : frames.Held Store} → card_of old ≡ Some kept → kept.timed.card ≡ Frames c
+    → ((m : Card) → AnyStands kept.timed.card (alone m) → FramesStand new m × (counters_at new ≡ counters_of kept.timed.card)) → timers_of new ≡ timers_of old → marks_at new ≡ marks_at old → Unchanged line None old new
+same_frames line old new {kept} is kind stays timers marks =
+    record { stands = λ m s. (all m (there is m s)).0; counters = λ m s. (all m (there is m s)).1 ∙ sym (ap counters_held is); timers = timers; marks = marks }
   where
-    none : (m : OctetCard) → HandleStands old (with_ports m) → ⊥
-    none m s = subst (λ card. AnyStands card (with_ports m)) kind (there is (with_ports m) s)
-
-    stand : (m : Machine) → HandleStands old m → HandleStands new m
-    stand (alone m) s = stays m (frames_there is kind m s)
-    stand (with_ports m) s = absurd (none m s)
-
-    count : (m : Machine) → HandleStands old m → counters_at new ≡ counters_at old
-    count (alone m) s = counted m (frames_there is kind m s) ∙ frames_counted is kind
-    count (with_ports m) s = absurd (none m s)
+    all : (m : Machine) → AnyStands kept.timed.card m → HandleStands new m × (counters_at new ≡ counters_of kept.timed.card)
+    all (alone m) on = stays m on
+    all (with_ports m) on = absurd (subst (λ card. AnyStands card (with_ports m)) kind on)
 
 -- What holds of each machine with a line, by what else does.
 each : (cards : Wanted) (line : ℕ) (h : CardHandle) (P Q : Machine → Type 0) → ((m : Machine) → P m → Q m) → WithLine cards line h P → WithLine cards line h Q
@@ -166,7 +160,11 @@ none_there None is = refl
 none_there (Some a) is = absurd (false≢true (sym is))
 
 pub carried_untimed : (line : ℕ) (orders : List Order) (m m' : Card) (old new : Option CardTimers) → old ≡ None → new ≡ None → CarryOut line orders m m' old new
-carried_untimed line orders m m' old new none is = subst (λ o. CarryOut line orders m m' o new) (sym none) is
+carried_untimed line orders m m' old new none is = record {
+  there = ap is_some is ∙ sym (ap is_some none);
+  timers = λ c stood. absurd (subst (λ o. TimersStandIn o m c) none stood);
+  noted = λ c marks stood. absurd (subst (λ o. TimersStandIn o m c) none stood);
+}
 
 -- The next frame: there is no room for the longest, none waits, or it is given.
 module _ (line room : ℕ) (m : Card) where

@@ -7,7 +7,6 @@ use Rattle.std.proofs.lemmas.Option.{same_Some}
 use Rattle.lapd_frame.specs.declared.refusals.Refusal.{Refusal}
 use Rattle.lapd_frame.specs.declared.timers.Order.{Order}
 use Rattle.lapd_frame.specs.declared.timers.Timer.{Timer}
-use Rattle.lapd_timed.specs.declared.card_timers.CardTimers.{CardTimers}
 use Rattle.model_line.specs.Counts.{is_given}
 use Rattle.model_line.specs.Event as line
 use Rattle.model_line.specs.Event.{LineTold, NextFrame, nothing}
@@ -21,7 +20,7 @@ use Rattle.model_card.specs.ports.Card as octets
 use Rattle.model_card.specs.ports.Codec.{meant_in}
 use Rattle.model_card.specs.ports.Event as octet
 use Rattle.model_card.specs.ports.Port as port
-use Rattle.model_timed.specs.Changes.{Marks, noted}
+use Rattle.model_timed.specs.Changes.{noted}
 use Rattle.model_timed.specs.Clock.{Clock, obeyed}
 use Rattle.model_timed.specs.Octets as timed
 use Rattle.lapd_card.specs.Kinds as any
@@ -36,7 +35,7 @@ use Rattle.lapd_c.specs.Slots.{HeldCard}
 use Rattle.lapd_c.specs.Cards.{HandleStands, StandsIn, card_of, without_marks}
 use Rattle.lapd_c.specs.Config.{config_in}
 use Rattle.lapd_c.specs.FallsDue.{FellDue}
-use Rattle.lapd_c.specs.Kept.{CarryOut, ChangesStandIn, TimersStandIn, is_timed, orders_by, reply_seen_by, seen_by, timers_of, without_orders}
+use Rattle.lapd_c.specs.Kept.{ChangesStandIn, TimersStandIn, is_timed, orders_by, reply_seen_by, seen_by, timers_of, without_orders}
 use Rattle.lapd_c.specs.Reports.{Shows, ShowsPull, contents_in, contents_or_none, mark_of}
 use Rattle.lapd_c.specs.Statuses.{refusal_status}
 use Rattle.lapd_c.specs.Wanted.{IsOther, OfEach, Wanted, of_any, of_octets, of_frames, of_untimed}
@@ -59,7 +58,7 @@ not_false false is = sym is
 
 frames_held : (held : HeldCard) (m : Card) → StandsIn held (alone m) → option_map any.kind_of (option_map without_marks held) ≡ Some kinds.Frames
 frames_held None m s = absurd s
-frames_held (Some kept) m s = of_card kept.card s
+frames_held (Some kept) m s = of_card kept.timed.card s
   where
     of_card : (card : AnyCard) → AnyStands card (alone m) → Some (any.kind_of card) ≡ Some kinds.Frames
     of_card (Octets c) s = absurd s
@@ -80,18 +79,6 @@ is_other of_octets old (alone m) s is = frames_held (card_of old) m s
 is_other of_frames old (with_ports m) s is = octets_held (card_of old) m s
 is_other of_frames old (alone m) s is = absurd (false≢true (sym is))
 is_other of_untimed old m s is = not_false (is_timed old) is
-
--- a clock beside the card of frames of either kind
-carried : (number : ℕ) (orders : List Order) (m m' : Card) (o n : Option CardTimers) → CarryOut number orders m m' o n
-    → (c : Clock) → TimersStandIn o m c → TimersStandIn n m' (obeyed number orders c)
-carried number orders m m' None n h c s = absurd s
-carried number orders m m' (Some timers) n h c s = h.timers c s
-
--- and what is noted of the links
-marked : (number : ℕ) (orders : List Order) (m m' : Card) (o n : Option CardTimers) → CarryOut number orders m m' o n
-    → (c : Clock) (marks : Marks) → TimersStandIn o m c → ChangesStandIn o m marks → ChangesStandIn n m' (noted (obeyed number orders c).now m' marks)
-marked number orders m m' None n h c marks s k = absurd s
-marked number orders m m' (Some timers) n h c marks s k = h.noted c marks s k
 
 pub card_after : (e : Event) (m : Machine) → machine.after e (card_in m) ≡ card_in (any.after e m)
 card_after e (with_ports m) = refl
@@ -149,10 +136,10 @@ module _ (asked : Asked) (old new : CardHandle) (result : ℕ) (before r : Plain
     stands = s.stands;
     timers = λ clock stood. subst (λ (m' : Card). TimersStandIn (timers_of new) m' (obeyed asked.line orders clock)) (card_after (at asked.line what) m)
         (subst (λ (os : List Order). TimersStandIn (timers_of new) (machine.after (at asked.line what) (card_in m)) (obeyed asked.line os clock)) is
-        (carried asked.line (orders_in (machine.answer (at asked.line what) (card_in m))) (card_in m) (machine.after (at asked.line what) (card_in m)) (timers_of old) (timers_of new) s.obeyed clock stood));
+        (s.obeyed.timers clock stood));
     links = λ clock marks stood stood_marks. subst (λ (m' : Card). ChangesStandIn (timers_of new) m' (noted (obeyed asked.line orders clock).now m' marks)) (card_after (at asked.line what) m)
         (subst (λ (os : List Order). ChangesStandIn (timers_of new) (machine.after (at asked.line what) (card_in m)) (noted (obeyed asked.line os clock).now (machine.after (at asked.line what) (card_in m)) marks)) is
-        (marked asked.line (orders_in (machine.answer (at asked.line what) (card_in m))) (card_in m) (machine.after (at asked.line what) (card_in m)) (timers_of old) (timers_of new) s.obeyed clock marks stood stood_marks));
+        (s.obeyed.noted clock marks stood stood_marks));
     counters = s.counted;
   }
 
@@ -163,9 +150,9 @@ module _ (asked : Asked) (old new : CardHandle) (result : ℕ) (before r : Plain
     told = s.ok;
     stands = s.stands;
     timers = λ clock stood. subst (λ (os : List Order). TimersStandIn (timers_of new) (octets.after (octet.at asked.line what) m).card (obeyed asked.line os clock)) is
-        (carried asked.line (timed.orders_in (octets.answer (octet.at asked.line what) m)) m.card (octets.after (octet.at asked.line what) m).card (timers_of old) (timers_of new) s.obeyed clock stood);
+        (s.obeyed.timers clock stood);
     links = λ clock marks stood stood_marks. subst (λ (os : List Order). ChangesStandIn (timers_of new) (octets.after (octet.at asked.line what) m).card (noted (obeyed asked.line os clock).now (octets.after (octet.at asked.line what) m).card marks)) is
-        (marked asked.line (timed.orders_in (octets.answer (octet.at asked.line what) m)) m.card (octets.after (octet.at asked.line what) m).card (timers_of old) (timers_of new) s.obeyed clock marks stood stood_marks);
+        (s.obeyed.noted clock marks stood stood_marks);
     counters = s.counted;
   }
 

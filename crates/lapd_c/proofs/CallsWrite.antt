@@ -94,7 +94,7 @@ nothing_there h kind c begun = let m = fresh kind c in let lines = ap (λ (card 
 -- counters of the card that is there
 same_counters : (h : HeldCard) (card : AnyCard) → option_map without_marks h ≡ Some card → counters_held h ≡ counters_of card
 same_counters None card is = absurd (none-some card is)
-same_counters (Some kept) card is = ap counters_of (same_Some kept.card card is)
+same_counters (Some kept) card is = ap counters_of (same_Some kept.timed.card card is)
 
 -- it has as many lines as its machine
 as_many : (card : AnyCard) (m : Machine) → AnyStands card m → line_count card ≡ (card_in m).config.lines
@@ -105,19 +105,19 @@ as_many (Frames card) (alone m) stands = sym (ap (λ (c : Config). c.lines) stan
 
 its_lines : (h : HeldCard) (card : AnyCard) (m : Machine) → option_map without_marks h ≡ Some card → StandsIn h m → line_count card ≡ (card_in m).config.lines
 its_lines None card m is stands = absurd stands
-its_lines (Some kept) card m is stands = subst (λ card. line_count card ≡ (card_in m).config.lines) (same_Some kept.card card is) (as_many kept.card m stands)
+its_lines (Some kept) card m is stands = subst (λ card. line_count card ≡ (card_in m).config.lines) (same_Some kept.timed.card card is) (as_many kept.timed.card m stands)
 
 -- one that is the same but for what waits
 same_stands : (old new : HeldCard) (m : Machine) → option_map without_marks new ≡ option_map without_marks old → StandsIn old m → StandsIn new m
 same_stands None new m is stands = absurd stands
-same_stands (Some kept) None m is stands = absurd (none-some kept.card is)
-same_stands (Some kept) (Some then) m is stands = subst (λ card. AnyStands card m) (sym (same_Some then.card kept.card is)) stands
+same_stands (Some kept) None m is stands = absurd (none-some kept.timed.card is)
+same_stands (Some kept) (Some then) m is stands = subst (λ card. AnyStands card m) (sym (same_Some then.timed.card kept.timed.card is)) stands
 
 same_kept : (old new : HeldCard) → option_map without_marks new ≡ option_map without_marks old → counters_held new ≡ counters_held old
 same_kept None None is = refl
-same_kept None (Some then) is = absurd (none-some then.card (sym is))
-same_kept (Some kept) None is = absurd (none-some kept.card is)
-same_kept (Some kept) (Some then) is = ap counters_of (same_Some then.card kept.card is)
+same_kept None (Some then) is = absurd (none-some then.timed.card (sym is))
+same_kept (Some kept) None is = absurd (none-some kept.timed.card is)
+same_kept (Some kept) (Some then) is = ap counters_of (same_Some then.timed.card kept.timed.card is)
 
 -- a start that is not OK changes nothing
 none_begins : {A B C : Type 0} (P : Type 0) (held : Option A) (fault : Option B) (long : Option C) → ((x : A) → held ≡ Some x → P) → ((x : B) → held ≡ None → fault ≡ Some x → P)

@@ -1,5 +1,5 @@
 -- A card in C may be saved from its start on, whatever is called of it.
-use Rattle.lapd_c.proofs.Vocabulary.{◌≡◌, ◌≤◌, ◌<◌, ◌-◌, ℕ, Bool, true, false, List, [], ◌∷◌, length, Option, None, Some, Ok, IfOk, IfSome, Result, inl, inr, refl, sym, ap, subst, ◌∙◌, arith, cases_lt, Card, Config, KeptCard, HeldCard, AnyCard, Frames, Octets, AnyStands, Machine, with_ports, alone, card_in, OctetCard, Refusal}
+use Rattle.lapd_c.proofs.Vocabulary.{◌≡◌, ◌≤◌, ◌<◌, ◌-◌, ℕ, Bool, true, false, List, [], length, Option, None, Some, Ok, IfOk, IfSome, Result, inl, inr, refl, sym, ap, subst, ◌∙◌, arith, cases_lt, Card, Config, KeptCard, HeldCard, AnyCard, Frames, Octets, AnyStands, Machine, with_ports, alone, card_in, OctetCard, Refusal}
 use Rattle.std.specs.List.{range_with_len}
 use Rattle.std.specs.Prelude.{◌≢◌, ◌^◌, get_or, map, is_some, if◌then◌else◌, Err}
 use Rattle.std.proofs.lemmas.Bool.{cases_eq}
@@ -27,7 +27,6 @@ use Rattle.model_timed.specs.Changes.{Marks, inside, marks_after, noted, unmarke
 use Rattle.model_timed.specs.Clock.{Clock, at_moment, due, obeyed, stopped, with_lengths, without_first}
 use Rattle.model_timed.specs.Frames.{orders_at}
 use Rattle.model_timed.specs.Octets as timed_octets
-use Rattle.model_timed.specs.Timed as timed
 use Rattle.lapd_c.specs.declared.card.CardHandle.{CardHandle}
 use Rattle.lapd_c.specs.declared.plain.config.PlainConfig.{PlainConfig}
 use Rattle.lapd_c.specs.declared.plain.reports.PlainReport.{PlainReport}
@@ -50,6 +49,7 @@ use Rattle.lapd_c.proofs.BlockMade.{blocks_are_made}
 use Rattle.lapd_c.proofs.Calling.{none_there, same_held}
 use Rattle.lapd_c.proofs.CallsServed.{begun_stands, card_after, each_card, is_not_ok, is_other, is_served, is_wrong}
 use Rattle.lapd_c.proofs.Served.{frames_stand}
+use Rattle.lapd_c.proofs.Timing.{led-card}
 use Rattle.lapd_c.proofs.WrongStatuses.{refused_not_ok}
 
 -- ---- what is noted of its links, as an image has it
@@ -118,7 +118,7 @@ timers_beside (Some t) (Some c) s may = record { clock = c; marks = marks_in s.c
 
 held_beside : (held : HeldCard) (s : Saved) → HandleHolds held s → Beside (timers_held held) s.card
 held_beside None s holds = absurd holds
-held_beside (Some kept) s holds = timers_beside kept.timers s.clock s holds.timers
+held_beside (Some kept) s holds = timers_beside kept.timed.timers s.clock s holds.timers
 
 beside : (h : CardHandle) (may : CardMayBeSaved h) → Beside (timers_of h) (card_in may.machine)
 beside h may = subst (Beside (timers_of h)) may.of_machine (held_beside (card_of h) may.saved may.holds)
@@ -126,17 +126,17 @@ beside h may = subst (Beside (timers_of h)) may.of_machine (held_beside (card_of
 -- And this is enough.
 abbrev as_saved : KeptCard → Card → Option Clock → List (List ℕ) → Saved
 as_saved kept m clock changed =
-    record { of_octets = is_octets kept.card; card = m; counted = counters_of kept.card; waits = card_waits m kept.refused; clock = clock; changed = changed }
+    record { of_octets = is_octets kept.timed.card; card = m; counted = counters_of kept.timed.card; waits = card_waits m kept.refused; clock = clock; changed = changed }
 
 kind_is : (card : AnyCard) → kind_of card ≡ (if is_octets card then kinds.Octets else kinds.Frames)
 kind_is (Octets c) = refl
 kind_is (Frames c) = refl
 
-held_as : (kept : KeptCard) (m : Machine) (clock : Option Clock) (changed : List (List ℕ)) → AnyStands kept.card m
-    → MayBeSaved kept.timers clock (as_saved kept (card_in m) clock changed) → IsHeldAs kept (as_saved kept (card_in m) clock changed)
-held_as kept m clock changed stands may = record { kind = kind_is kept.card; lines = frames_stand kept.card m stands; counted = refl; waits = refl; timers = may }
+held_as : (kept : KeptCard) (m : Machine) (clock : Option Clock) (changed : List (List ℕ)) → AnyStands kept.timed.card m
+    → MayBeSaved kept.timed.timers clock (as_saved kept (card_in m) clock changed) → IsHeldAs kept (as_saved kept (card_in m) clock changed)
+held_as kept m clock changed stands may = record { kind = kind_is kept.timed.card; lines = frames_stand kept.timed.card m stands; counted = refl; waits = refl; timers = may }
 
-saved_by : (kept : KeptCard) (m : Machine) (o : Option CardTimers) → kept.timers ≡ o → AnyStands kept.card m → Beside o (card_in m)
+saved_by : (kept : KeptCard) (m : Machine) (o : Option CardTimers) → kept.timed.timers ≡ o → AnyStands kept.timed.card m → Beside o (card_in m)
     → (s : Saved) × (s.card ≡ card_in m) × IsHeldAs kept s
 saved_by kept m None is stands b =
     let s : Saved = as_saved kept (card_in m) None [] in
@@ -156,7 +156,7 @@ made h m stood known = go (card_of h) refl stood known
     go : (held : HeldCard) → card_of h ≡ held → StandsIn held m → Beside (timers_held held) (card_in m) → CardMayBeSaved h
     go None is stands b = absurd stands
     go (Some kept) is stands b =
-        let found = saved_by kept m kept.timers refl stands b in record {
+        let found = saved_by kept m kept.timed.timers refl stands b in record {
           machine = m;
           stands = subst (λ held. StandsIn held m) (sym is) stands;
           saved = found.0;
@@ -180,7 +180,7 @@ no_card held m stands none = subst (λ held. StandsIn held m) none stands
 -- ---- a call of a line
 
 carried : (number : ℕ) (orders : List Order) (m m' : Card) (o n : Option CardTimers) → CarryOut number orders m m' o n → Beside o m → Beside n m'
-carried number orders m m' None n h b = subst (λ n. Beside n m') (sym h) tt
+carried number orders m m' None n h b = subst (λ n. Beside n m') (sym (none_there n h.there)) tt
 carried number orders m m' (Some t) n h b =
     stand_in n m' (obeyed number orders b.clock) (noted (obeyed number orders b.clock).now m' b.marks) (h.timers b.clock b.stand) (h.noted b.clock b.marks b.stand b.noted)
 
@@ -225,16 +225,11 @@ module _ (asked : Asked) (old new : CardHandle) (result : ℕ) (before r : Plain
 
 -- ---- a block of octets
 
-same_card : (events : List octet_event.Event) (m : OctetCard) (c : Clock) → (timed_after events m c).card.card ≡ (octets_run.after_all m events).card
-unfolding timed.after_all octets_run.after_all
-same_card [] m c = refl
-same_card (e ∷ events) m c = same_card events (octets.after e m) (obeyed e.line (timed_octets.orders_at e m) c)
-
 all_carried : (events : List octet_event.Event) (m : OctetCard) (o n : Option CardTimers) → CarryOutAll events m o n → Beside o m.card → Beside n (octets_run.after_all m events).card
-all_carried events m None n h b = subst (λ n. Beside n (octets_run.after_all m events).card) (sym h) tt
+all_carried events m None n h b = subst (λ n. Beside n (octets_run.after_all m events).card) (sym (none_there n h.there)) tt
 all_carried events m (Some t) n h b =
     let there = timed_after events m b.clock in
-    subst (Beside n) (same_card events m b.clock)
+    subst (λ (x : OctetCard). Beside n x.card) (led-card events m b.clock)
     (stand_in n there.card.card there.clock (marks_after timed_octets.octets inside (happen events) (record { card = m; clock = b.clock }) b.marks)
     (h.timers b.clock b.stand) (h.noted b.clock b.marks b.stand b.noted))
 

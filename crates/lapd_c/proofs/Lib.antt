@@ -6,14 +6,12 @@ pub mod Places
 pub mod SlotPlaces
 pub mod Contents
 pub mod WholeFrames
+pub mod Timing
 pub mod Served
 pub mod Starting
 pub mod Exchanging
 pub mod Linking
 pub mod Reopening
-pub mod Noting
-pub mod Timing
-pub mod NotingAll
 pub mod Moments
 pub mod Ordering
 pub mod WrongStatuses

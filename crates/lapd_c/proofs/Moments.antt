@@ -1,10 +1,18 @@
--- The moment at which a timer falls due first.
-use Rattle.lapd_c.proofs.Vocabulary.{◌≡◌, ℕ, ◌<◌, List, [], ◌∷◌, Option, None, Some, IsSome, refl, sym, ap, subst, arith, none-some}
+-- The moment at which a timer falls due first, and at which the state of a link changed last.
+use Rattle.lapd_c.proofs.Vocabulary.{◌≡◌, ℕ, ◌<◌, List, [], ◌∷◌, Option, None, Some, IsSome, Ok, Result, option_map, refl, sym, ap, subst, ◌∙◌, arith, none-some}
 use Rattle.std.proofs.Common.{◌≢◌, cond}
 use Rattle.std.proofs.lemmas.Bool.{le-leb, lt-leb}
 use Rattle.lapd_clock.specs.Timers.{Expiry}
 use Rattle.model_timed.specs.Clock.{first_due, first_moment}
+use Rattle.lapd_frame.specs.declared.services.Service.{Service}
+use Rattle.lapd_timed.specs.Marked.{moment_in}
+use Rattle.lapd_timed.specs.Places.{link_on}
+use Rattle.model_card.specs.Card.{Card, line_at}
+use Rattle.model_timed.specs.Changes.{Marks}
+use Rattle.lapd_c.specs.Changed.{TellsWord, changed_at, changed_of}
 use Rattle.lapd_c.specs.FallsDue.{TellsMoment}
+use Rattle.lapd_c.specs.QuestionWords.{or_status}
+use Rattle.lapd_c.specs.Timers.{link_in}
 
 -- what is told of it
 pub none_told : (o : Option ℕ) (moment : ℕ) → o ≡ None → TellsMoment o 23 moment
@@ -33,3 +41,14 @@ pub none_runs : (es : List Expiry) (result moment : ℕ) → TellsMoment (first_
     → (result ≡ 23) × ((now : ℕ) → first_due es now ≡ None)
 none_runs [] result moment told not = (told, λ now. refl)
 none_runs (e ∷ es) result moment told not = absurd (not told.0)
+
+-- what a question for a link's moment is told
+pub none-changed : (line service tei : ℕ) (r : Result (Service × ℕ) ℕ) (link : Service × ℕ) (m : Card) (marks : Marks) (o : Option ℕ) (after : ℕ) → r ≡ link_in service tei → r ≡ Ok link
+    → o ≡ option_map (moment_in marks line) (link_on link.0 link.1 (line_at line m)) → o ≡ None → TellsWord (changed_of line service tei m marks) 2 after
+none-changed line service tei r link m marks o after is ok word none =
+    subst (λ q. TellsWord (changed_at line m marks q) 2 after) (sym ok ∙ is) (subst (λ o. TellsWord (or_status 2 o) 2 after) (sym none ∙ word) (refl, λ e. omega (arith, e)))
+
+pub one-changed : (line service tei : ℕ) (r : Result (Service × ℕ) ℕ) (link : Service × ℕ) (m : Card) (marks : Marks) (o : Option ℕ) (after : ℕ) → r ≡ link_in service tei → r ≡ Ok link
+    → o ≡ option_map (moment_in marks line) (link_on link.0 link.1 (line_at line m)) → o ≡ Some after → TellsWord (changed_of line service tei m marks) 0 after
+one-changed line service tei r link m marks o after is ok word one =
+    subst (λ q. TellsWord (changed_at line m marks q) 0 after) (sym ok ∙ is) (subst (λ o. TellsWord (or_status 2 o) 0 after) (sym one ∙ word) (refl, refl))

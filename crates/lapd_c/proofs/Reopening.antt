@@ -8,9 +8,6 @@ use Rattle.model_line.specs.Event as line_event
 use Rattle.model_card.specs.ports.Port as port
 use Rattle.lapd_c.specs.declared.link_marks.LinkMarks.{LinkMarks}
 use Rattle.lapd_c.specs.Exchange.{Exchanged, answer_after}
-use Rattle.lapd_card.specs.Card as octets
-use Rattle.lapd_store.specs.Store.{Store}
-use Rattle.std.specs.Prelude.{is_some}
 use Rattle.lapd_c.specs.LinkMarks.{is_marked, marks_of, AreMarked, MarksBecome, SetsLink}
 use Rattle.lapd_c.specs.declared.plain.timers.PlainTimer.{PlainTimer}
 use Rattle.lapd_c.specs.Reopened.{AreShutBelow, ShowsReopened, TellsReopened, is_open, is_there, is_told, with_reopened}
@@ -19,8 +16,7 @@ use Rattle.std.proofs.Common.{min}
 use Rattle.std.proofs.Math.Nat.{min-eq_left}
 use Rattle.lapd_c.proofs.Vocabulary.{Octets, Frames, with_ports, alone, card_in, ranges_of}
 use Rattle.lapd_frame.specs.declared.timers.Order.{Order}
-use Rattle.lapd_timed.specs.declared.card_timers.CardTimers.{CardTimers}
-use Rattle.lapd_c.specs.Kept.{orders_by, reply_seen_by, seen_by, settled}
+use Rattle.lapd_c.specs.Kept.{count_by, orders_by, reply_seen_by, seen_by}
 
 -- ---- which wait
 
@@ -116,11 +112,14 @@ reopened_still line m old new r x h = record { told = h.told; first = h.first; s
     go (Some place) s = s
 
 -- and where the card keeps its own timers, all but the orders
-pub settled_answered : (timers : Option CardTimers) (new old : PlainReport) (a : line_event.Answer) → new ≡ settled timers new old → ShowsAnswer old a → ShowsAnswer new (seen_by (is_some timers) a)
-settled_answered None new old a is s = still_answered new old a is s
-settled_answered (Some timers) new old (line_event.told t) is s = grind arith
-settled_answered (Some timers) new old (line_event.refused why) is s = s
-settled_answered (Some timers) new old (line_event.gave next) is s = s
+abbrev settled_by : Bool → PlainReport → PlainReport → PlainReport
+settled_by own from r = with_reopened from (record r { order_count = count_by own r.order_count })
+
+pub settled_answered : (own : Bool) (new old : PlainReport) (a : line_event.Answer) → new ≡ settled_by own new old → ShowsAnswer old a → ShowsAnswer new (seen_by own a)
+settled_answered false new old a is s = still_answered new old a is s
+settled_answered true new old (line_event.told t) is s = grind arith
+settled_answered true new old (line_event.refused why) is s = s
+settled_answered true new old (line_event.gave next) is s = s
 
 -- orders alone, of which a card that keeps its own timers shows none
 pub orders_seen_by : (timed : Bool) (r : PlainReport) (orders : List Order) (a : line_event.Answer) → line_event.told (record line_event.nothing { orders = orders }) ≡ a
@@ -136,39 +135,38 @@ orders_shown r old own timed orders is same s =
 pub given_shown_by : (r old : PlainReport) (more own timed : Bool) (orders : List Order) → r ≡ with_reopened r old → timed ≡ own → ShowsPull old true more (orders_by timed orders) → ShowsPull r true more (orders_by own orders)
 given_shown_by r old more own timed orders is same s = subst (λ b. ShowsPull r true more (orders_by b orders)) same (still_pulled r old true more (orders_by timed orders) is s)
 
-pub settled_pulled : (timers : Option CardTimers) (new old : PlainReport) (begun more : Bool) (orders : List Order) → new ≡ settled timers new old → ShowsPull old begun more orders
-    → ShowsPull new begun more (orders_by (is_some timers) orders)
-settled_pulled None new old begun more orders is s = still_pulled new old begun more orders is s
-settled_pulled (Some timers) new old begun more orders is s = grind arith
+settled_pulled : (own : Bool) (new old : PlainReport) (begun more : Bool) (orders : List Order) → new ≡ settled_by own new old → ShowsPull old begun more orders → ShowsPull new begun more (orders_by own orders)
+settled_pulled false new old begun more orders is s = still_pulled new old begun more orders is s
+settled_pulled true new old begun more orders is s = grind arith
 
-pub settled_replied : (timers : Option CardTimers) (new old : PlainReport) (a : port.Answer) → new ≡ settled timers new old → ShowsReply old a → ShowsReply new (reply_seen_by (is_some timers) a)
-settled_replied None new old a is s = still_replied new old a is s
-settled_replied (Some timers) new old (port.told t) is s = settled_answered (Some timers) new old (line_event.told t) is s
-settled_replied (Some timers) new old (port.refused why) is s = s
-settled_replied (Some timers) new old (port.pulled value begun orders) is s = settled_pulled (Some timers) new old begun false orders is s
+pub settled_replied : (own : Bool) (new old : PlainReport) (a : port.Answer) → new ≡ settled_by own new old → ShowsReply old a → ShowsReply new (reply_seen_by own a)
+settled_replied false new old a is s = still_replied new old a is s
+settled_replied true new old (port.told t) is s = settled_answered true new old (line_event.told t) is s
+settled_replied true new old (port.refused why) is s = s
+settled_replied true new old (port.pulled value begun orders) is s = settled_pulled true new old begun false orders is s
 
 -- nothing has no orders
-settled_nothing : (timers : Option CardTimers) (new old : PlainReport) → new ≡ settled timers new old → ShowsReply old (port.told line_event.nothing) → ShowsReply new (port.told line_event.nothing)
-settled_nothing None new old is s = settled_replied None new old (port.told line_event.nothing) is s
-settled_nothing (Some timers) new old is s = settled_replied (Some timers) new old (port.told line_event.nothing) is s
+settled_nothing : (own : Bool) (new old : PlainReport) → new ≡ settled_by own new old → ShowsReply old (port.told line_event.nothing) → ShowsReply new (port.told line_event.nothing)
+settled_nothing false new old is s = settled_replied false new old (port.told line_event.nothing) is s
+settled_nothing true new old is s = settled_replied true new old (port.told line_event.nothing) is s
 
 -- so also an exchange
-pub settled_exchanged : (timers : Option CardTimers) (line from : ℕ) (taken : List ℕ) (m : OctetCard) (card : octets.Held Store) (given given' : List ℕ) (to : ℕ) (new old : PlainReport)
-    → new ≡ settled timers new old → Exchanged false line taken from m card given given' to old → Exchanged (is_some timers) line taken from m card given given' to new
-settled_exchanged timers line from taken m card given given' to new old is x = record {
+pub settled_exchanged : (own : Bool) (line from : ℕ) (taken : List ℕ) (m : OctetCard) (card : AnyCard) (given given' : List ℕ) (to : ℕ) (new old : PlainReport)
+    → new ≡ settled_by own new old → Exchanged false line taken from m card given given' to old → Exchanged own line taken from m card given given' to new
+settled_exchanged own line from taken m card given given' to new old is x = record {
   n = x.n;
   within = x.within;
   stands = x.stands;
   octets = x.octets;
   ended = elim x.ended [
-    | inl t ↦ inl (record { end = t.end; made = t.made; quiet = t.quiet; report = settled_nothing timers new old is t.report })
+    | inl t ↦ inl (record { end = t.end; made = t.made; quiet = t.quiet; report = settled_nothing own new old is t.report })
     | inr t ↦ inr (record {
       before = t.before;
       last = t.last;
       made = t.made;
       quiet = t.quiet;
       tells = t.tells;
-      report = settled_replied timers new old (answer_after line taken from t.before m) is t.report;
+      report = settled_replied own new old (answer_after line taken from t.before m) is t.report;
     })
   ];
 }

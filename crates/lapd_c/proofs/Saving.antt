@@ -1,10 +1,11 @@
 -- What a save writes in front of a room, and what C holds as it is saved and restored.
-use Rattle.std.proofs.Common.{◌≡◌, ℕ, ◌≤◌, true, cond, List, length, map, take, refl, sym, ap, ◌∙◌, subst, length-take-le, take_all}
+use Rattle.std.proofs.Common.{◌≡◌, ℕ, ◌≤◌, cond, List, length, map, take, refl, sym, ap, ◌∙◌, subst, length-take-le, take_all}
 use Rattle.std.specs.List.{AllZip}
 use Rattle.std.specs.Prelude.{IfOk, IfSome, Option, Some, None, Ok, Err, Result, is_some}
 use Rattle.std.specs.Result.{result_ok}
 use Rattle.std.proofs.lemmas.Bool.{le-ltb}
 use Rattle.lapd_card.specs.Kinds.{config_of, frames_of, card_in, AnyStands, FrameCardStands, Machine}
+use Rattle.lapd_card.specs.declared.kinds.AnyCard.{AnyCard}
 use Rattle.lapd_image.specs.Puts.{Puts}
 use Rattle.lapd_timed.specs.Image.{AreAllMarks, IsRestoredFrom, MayBeSaved, StandsFor}
 use Rattle.lapd_timed.specs.declared.card_timers.CardTimers.{CardTimers}
@@ -17,9 +18,7 @@ use Rattle.model_image.specs.Sound.{AreMarks, IsSaved}
 use Rattle.model_image.proofs.FitsWhole.{images_fit}
 use Rattle.model_timed.specs.Clock.{Clock}
 use Rattle.lapd_c.specs.declared.kept.KeptCard.{KeptCard}
-use Rattle.lapd_c.specs.declared.link_marks.LinkMarks.{LinkMarks}
 use Rattle.lapd_c.specs.Saves.{save_status, IsHeldAs, IsRead, StandsInFront}
-use Rattle.lapd_c.specs.LinkMarks.{is_marked, marks_of}
 use Rattle.lapd_c.specs.Waiting.{card_waits, AreAllMarked}
 use Rattle.lapd_c.proofs.Served.{frames_stand}
 use Rattle.lapd_c.proofs.WaitsBack.{held_marks, marked_there, waits_back}
@@ -46,16 +45,16 @@ timed_alike (Some timers) None s may = absurd may
 timed_alike (Some timers) (Some c) s may = refl
 
 -- The image of what is held has no more octets than its card says.
-pub held_fits : (kept : KeptCard) (s : Saved) → IsSaved s → IsHeldAs kept s → length (image_of s) ≤ most_octets s.card.config (is_some kept.timers)
-held_fits kept s saved held = subst (λ timed. length (image_of s) ≤ most_octets s.card.config timed) (timed_alike kept.timers s.clock s held.timers) (images_fit s saved)
+pub held_fits : (kept : KeptCard) (s : Saved) → IsSaved s → IsHeldAs kept s → length (image_of s) ≤ most_octets s.card.config (is_some kept.timed.timers)
+held_fits kept s saved held = subst (λ timed. length (image_of s) ≤ most_octets s.card.config timed) (timed_alike kept.timed.timers s.clock s held.timers) (images_fit s saved)
 
 -- The configuration of what is held is the card's.
-pub config_there : (kept : KeptCard) (m : Machine) → AnyStands kept.card m → (card_in m).config ≡ config_of kept.card
-config_there kept m stands = (frames_stand kept.card m stands).config
+pub config_there : (kept : KeptCard) (m : Machine) → AnyStands kept.timed.card m → (card_in m).config ≡ config_of kept.timed.card
+config_there kept m stands = (frames_stand kept.timed.card m stands).config
 
 -- It is what an image of this card and these links and timers has, and only links wait whose TEI is on the line.
 pub stands_for : (kept : KeptCard) (waits : List ℕ) (s : Saved) → map number_of (card_waits s.card kept.refused) ≡ take s.card.config.lines waits → IsHeldAs kept s
-    → StandsFor kept.card waits kept.timers s
+    → StandsFor kept.timed.card waits kept.timed.timers s
 stands_for kept waits s numbers held = record {
   kind = held.kind;
   lines = held.lines;
@@ -68,11 +67,12 @@ pub marks_held_as : (kept : KeptCard) (s : Saved) → IsHeldAs kept s → AreAll
 marks_held_as kept s held = subst (AllZip (AreMarks s.card.config) s.card.lines) held.waits (held_marks s.card kept.refused (reached-sound s.card held.lines.reached))
 
 -- What was restored is held, once its links are marked.
-pub read_again : (image waits : List ℕ) (kept : KeptCard) (all : List LinkMarks) (timers : Option CardTimers) → kept.refused ≡ all → kept.timers ≡ timers
-    → ((m : Card) → FrameCardStands (frames_of kept.card) m → AreAllMarked m waits all) → IsRestoredFrom image kept.card waits timers → IsRead image kept
-read_again image waits kept all timers refused own marked from =
+pub read_again : (image waits : List ℕ) (kept : KeptCard) (card : AnyCard) (timers : Option CardTimers) → kept.timed.card ≡ card → kept.timed.timers ≡ timers
+    → ((m : Card) → FrameCardStands (frames_of card) m → AreAllMarked m waits kept.refused) → IsRestoredFrom image card waits timers → IsRead image kept
+read_again image waits kept card timers same own marked restored =
+    let from = subst (λ card. IsRestoredFrom image card waits kept.timed.timers) (sym same) (subst (λ own. IsRestoredFrom image card waits own) (sym own) restored) in
     let s = from.saved in
-    let marks = marked s.card from.stands.lines in
+    let marks = marked s.card (subst (λ card. FrameCardStands (frames_of card) s.card) same from.stands.lines) in
     let sound = reached-sound s.card from.stands.lines.reached in
     record {
       saved = s;
@@ -81,14 +81,12 @@ read_again image waits kept all timers refused own marked from =
         kind = from.stands.kind;
         lines = from.stands.lines;
         counted = from.stands.counted;
-        waits = subst (λ (ls : List LinkMarks). card_waits s.card ls ≡ s.waits) (sym refused)
-            (waits_back s.card sound s.waits waits all from.restored.saved.waits from.stands.waiting marks);
-        timers = subst (λ own. MayBeSaved own s.clock s) (sym own) from.stands.kept;
+        waits = waits_back s.card sound s.waits waits kept.refused from.restored.saved.waits from.stands.waiting marks;
+        timers = from.stands.kept;
       };
       begins = from.begins;
-      lines = ap (λ (ls : List LinkMarks). length ls) refused ∙ marks.count;
-      marked = λ line place within few is.
-          marked_there s.card waits all marks line place within few (subst (λ (ls : List LinkMarks). is_marked (marks_of ls line) place ≡ true) refused is);
+      lines = marks.count;
+      marked = λ line place within few is. marked_there s.card waits kept.refused marks line place within few is;
     }
 
 -- and it stays so in a box.

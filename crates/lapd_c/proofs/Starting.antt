@@ -33,6 +33,10 @@ pub timers-begun : {E : Type 0} (config : Config) (lines terminals : ℕ) (clock
 timers-begun config lines terminals clock (Ok t) h of_lines of_terminals ranged = λ kind. subst (λ m. TimersStand t m clock) (sym (fresh-card kind config)) (h config of_lines of_terminals ranged)
 timers-begun config lines terminals clock (Err e) h of_lines of_terminals ranged = tt
 
+pub lines-begun : {E : Type 0} (config : Config) (lines : ℕ) (r : Result CardTimers E) → IfOk r (λ t. t.lines ≡ lines) → config.lines ≡ lines → IfSome (result_ok r) (λ t. t.lines ≡ config.lines)
+lines-begun config lines (Ok t) h is = h ∙ sym is
+lines-begun config lines (Err e) h is = tt
+
 -- and no link of it has changed
 pub marks-begun : {E : Type 0} (config : Config) (lines terminals : ℕ) (r : Result CardTimers E)
     → IfOk r (λ timers. (d : Config) → d.lines ≡ lines → d.terminals ≡ terminals → ChangesStand timers (cards.fresh d) unmarked)

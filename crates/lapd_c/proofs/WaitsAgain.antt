@@ -1,6 +1,6 @@
 -- Links that wait as a card is saved wait once it is restored, and no others.
-use Rattle.std.specs.Prelude.{◌/◌, ◌%◌, ◌==◌, if◌then◌else◌, not, Option, None, Some, Ok, Err, Result}
-use Rattle.std.specs.List.{range_with_len, AllZip}
+use Rattle.std.specs.Prelude.{◌/◌, ◌%◌, ◌==◌, if◌then◌else◌, not, None, Some, Ok, Err, Result}
+use Rattle.std.specs.List.{AllZip}
 use Rattle.std.proofs.Common.{arith, ◌≡◌, ℕ, ◌+◌, ◌*◌, zero, suc, ◌<◌, ◌≤◌, Bool, true, false, List, [], ◌∷◌, length, get_or, refl, sym, ap, ◌∙◌, subst}
 use Rattle.std.proofs.lemmas.Bool.{eqb-true, eqb-false, false≢true, le-ltb}
 use Rattle.std.proofs.lemmas.List.FromFn.{get_or-map-range_with_len}
@@ -16,7 +16,7 @@ use Rattle.model_card.proofs.Steps.{has_lines, line_sound}
 use Rattle.model_image.specs.Same.{IsSame}
 use Rattle.model_line.specs.Same.{IsSameLine}
 use Rattle.model_image.specs.Images.{Saved}
-use Rattle.model_line.specs.Line.{Line, fresh_line, has_tei, link_number, link_of, place_at, tei_at, terms}
+use Rattle.model_line.specs.Line.{fresh_line, has_tei, link_number, link_of, place_at, tei_at, terms}
 use Rattle.model_line.specs.Room.{unless}
 use Rattle.model_link.specs.Room.{room_of}
 use Rattle.model_link.specs.declared.rooms.Room.{Room}

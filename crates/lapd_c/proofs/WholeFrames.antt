@@ -1,5 +1,5 @@
 -- Whole frames: one that comes, and one that is given.
-use Rattle.lapd_c.proofs.Vocabulary.{arith, ◌≡◌, ℕ, List, drop, Option, sym, ap, subst, None, option_map, Config, NextFrame, gave_in, next_in, Card, at, moment_counted, moment_of, Counters, Store, FrameCardStands, frame_comes, goes, next_at}
+use Rattle.lapd_c.proofs.Vocabulary.{arith, ◌≡◌, ℕ, List, drop, Option, sym, ap, subst, None, option_map, Config, NextFrame, gave_in, next_in, Card, at, moment_counted, moment_of, Counters, Store, FrameCardStands, frame_comes, goes, next_at, AnyCard, AnyStands, alone}
 use Rattle.std.proofs.Common.{Some, IfSome, length, ◌≤◌}
 use Rattle.std.proofs.Math.Nat.{min-eq_left}
 use Rattle.std.proofs.lemmas.List.{length-take}
@@ -21,8 +21,8 @@ pub next_is : (i : ℕ) (m : Card) (out : List ℕ) (given : Option NextFrame) �
 next_is i m out given is = ap line.given_in (sym is)
 
 -- where no frame waits, the card stays, and nothing is counted
-pub none_goes : (i : ℕ) (m : Card) (c : frames.Held Store) → next_at i m ≡ None → FrameCardStands c (machine.after (goes i) m) → FrameCardStands c m
-none_goes i m c none s = subst (FrameCardStands c) (none_leaves m i none) s
+pub none_goes : (i : ℕ) (m : Card) (card : AnyCard) → next_at i m ≡ None → AnyStands card (alone (machine.after (goes i) m)) → AnyStands card (alone m)
+none_goes i m card none s = subst (λ m. AnyStands card (alone m)) (none_leaves m i none) s
 
 pub none_counted : (i : ℕ) (m : Card) (all : List Counters) → next_at i m ≡ None → moment_counted all (moment_of m (goes i)) ≡ all
 none_counted i m all none = none_counts m i all none

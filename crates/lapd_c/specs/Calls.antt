@@ -34,8 +34,8 @@ fresh kinds.Frames c = alone (frames.fresh c)
 
 -- As a card begins, it stands for a machine, nothing is counted, and no link waits for room.
 pub record Begins (m : Machine) (kept : KeptCard) : Type 0 where
-  pub stands : AnyStands kept.card m
-  pub counters : counters_of kept.card ≡ replicate (card_in m).config.lines none_counted
+  pub stands : AnyStands kept.timed.card m
+  pub counters : counters_of kept.timed.card ≡ replicate (card_in m).config.lines none_counted
   pub marks : AreUnmarked (card_in m).config.lines kept.refused
 
 abbrev pub HasBegun : Machine → HeldCard → Type 0

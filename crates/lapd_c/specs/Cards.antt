@@ -15,7 +15,7 @@ abbrev pub card_of : CardHandle → HeldCard
 card_of h = h.slot.card
 
 abbrev pub without_marks : KeptCard → AnyCard
-without_marks kept = kept.card
+without_marks kept = kept.timed.card
 
 abbrev pub served_card : CardHandle → Option AnyCard
 served_card h = option_map without_marks (card_of h)
@@ -38,7 +38,7 @@ IsHandle h = h.started ≡ is_some (card_of h)
 -- What C holds stands for a machine, where a card is there and does: for one of either kind, one of octets, one of frames.
 abbrev pub StandsIn : HeldCard → Machine → Type 0
 StandsIn None m = ⊥
-StandsIn (Some kept) m = AnyStands kept.card m
+StandsIn (Some kept) m = AnyStands kept.timed.card m
 
 abbrev pub HandleStands : CardHandle → Machine → Type 0
 HandleStands h m = StandsIn (card_of h) m

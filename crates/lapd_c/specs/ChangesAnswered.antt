@@ -31,5 +31,5 @@ pub record ChangesAreAnswered : Type 0 where
   -- So it is told of each card that keeps its own timers, and of the marks that these have noted.
   pub its_card : (line service tei result after : ℕ) (h : CardHandle) (kept : KeptCard) (timers : CardTimers) (m : Machine) (marks : Marks)
       → WithMarks h (λ m marks. line < m.config.lines → TellsWord (changed_of line service tei m marks) result after)
-      → h.slot.card ≡ Some kept → kept.timers ≡ Some timers → AnyStands kept.card m → ChangesStand timers (card_in m) marks
+      → h.slot.card ≡ Some kept → kept.timed.timers ≡ Some timers → AnyStands kept.timed.card m → ChangesStand timers (card_in m) marks
       → line < (card_in m).config.lines → TellsWord (changed_of line service tei (card_in m) marks) result after

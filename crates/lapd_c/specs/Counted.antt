@@ -15,7 +15,7 @@ use Rattle.lapd_card.specs.Kinds.{counters_of}
 -- The counters of its lines; of no card, none.
 abbrev pub counters_held : HeldCard → List Counters
 counters_held None = []
-counters_held (Some kept) = counters_of kept.card
+counters_held (Some kept) = counters_of kept.timed.card
 
 abbrev pub counters_at : CardHandle → List Counters
 counters_at h = counters_held (card_of h)

@@ -3,7 +3,6 @@ use Rattle.std.specs.Prelude.{◌≡◌, ◌∷◌, [], List, length, map}
 use Rattle.std.specs.List.{range_with_len}
 use Rattle.lapd_count.specs.Counters.{none_counted, place}
 use Rattle.lapd_count.specs.declared.counter.Counter.TheVariants as counter
-use Rattle.lapd_count.specs.declared.counter.Way.{Way}
 use Rattle.lapd_count.specs.declared.counter.Way.TheVariants.{Heard, Begun}
 use Rattle.lapd_count.specs.declared.kinds.Kind.{Kind}
 use Rattle.lapd_count.specs.declared.kinds.Kind.TheVariants as kind

@@ -1,34 +1,26 @@
 -- Octets taken and given in turn.
-use Rattle.std.specs.Prelude.{◌≡◌, ◌≤◌, ◌⊎◌, ℕ, zero, suc, ◌+◌, ◌-◌, ◌*◌, ◌/◌, ◌%◌, ◌==◌, nat_le, Bool, true, false, not, ◌&&◌, List, [], ◌∷◌, ◌++◌, length, get_or, set, is_none, is_some, Option, None, Some, IfSome, if◌then◌else◌}
+use Rattle.std.specs.Prelude.{◌≡◌, ◌≤◌, ◌⊎◌, ℕ, zero, suc, ◌+◌, ◌-◌, ◌*◌, ◌/◌, ◌%◌, ◌==◌, nat_le, Bool, true, false, not, ◌&&◌, List, [], ◌∷◌, ◌++◌, length, get_or, set, is_none, None, Some, if◌then◌else◌}
 use Rattle.model_line.specs.Event.{LineTold, nothing}
 use Rattle.model_card.specs.ports.Card.{OctetCard, answer}
 use Rattle.model_card.specs.ports.Event.{Event, at}
 use Rattle.model_card.specs.ports.Port.{Answer, octet, pull, told, refused, pulled}
 use Rattle.model_card.specs.ports.Run.{run}
-use Rattle.model_timed.specs.Octets.{orders_in}
-use Rattle.lapd_frame.specs.declared.short_lists.ShortList.{ShortList}
-use Rattle.lapd_frame.specs.declared.timers.Order.{Order}
-use Rattle.lapd_frame.specs.ShortLists.{listed}
-use Rattle.lapd_store.specs.Store.{Store}
-use Rattle.lapd_card.specs.Card.{Held}
 use Rattle.lapd_c.specs.declared.plain.reports.PlainReport.{PlainReport}
+use Rattle.lapd_card.specs.Kinds.{counters_of, with_ports, AnyStands}
 use Rattle.lapd_card.specs.declared.kinds.AnyCard.{AnyCard}
-use Rattle.lapd_card.specs.declared.kinds.AnyCard.TheVariants.{Octets, Frames}
 use Rattle.model_card.specs.Counted.{all_counted}
 use Rattle.model_card.specs.Run.{moments}
 use Rattle.model_card.specs.ports.Run.{meant_all}
+use Rattle.lapd_timed.specs.Called.{CalledOfOctets}
+use Rattle.lapd_timed.specs.declared.timed_card.TimedCard.{TimedCard}
 use Rattle.lapd_c.specs.declared.card.CardHandle.{CardHandle}
 use Rattle.lapd_c.specs.Answers.{ShowsReply, octet_of}
 use Rattle.lapd_c.specs.Cards.{card_of}
 use Rattle.lapd_c.specs.Slots.{HeldCard}
 use Rattle.lapd_c.specs.Counted.{counters_at}
-use Rattle.lapd_c.specs.Kept.{NoteAll, ObeysAll, is_timed, reply_seen_by}
+use Rattle.lapd_c.specs.Kept.{CarryOutAll, ObeysAll, is_timed, reply_seen_by}
 use Rattle.lapd_c.specs.Reports.{Shows, contents_or_none}
 use Rattle.lapd_c.specs.Statuses as status
-use Rattle.lapd_card.specs.Counted.{counters_in}
-use Rattle.lapd_card.specs.Kinds.{CardStands, shelf_of}
-use Rattle.lapd_card.specs.Stands.{Leads}
-use Rattle.lapd_timed.specs.declared.card_timers.CardTimers.{CardTimers}
 
 -- An answer has nothing to tell.
 abbrev pub tells_nothing : Answer → Bool
@@ -40,16 +32,13 @@ tells_nothing (pulled value begun orders) = not begun && (length orders == 0)
 abbrev pub is_exchange : List ℕ → List ℕ → ℕ → Bool
 is_exchange taken given from = (length taken == length given) && nat_le from (2 * length taken)
 
--- An event leads a card of octets on. If the answer has something to tell, these are its orders, and the report tells it; else none is
--- written. And the states of links are noted that it has left otherwise.
-pub record IsStep (e : Event) (old new : Held Store) (timers timers' : Option CardTimers) (orders : Option (ShortList Order)) (before r : PlainReport) : Type 0 where
-  pub leads : Leads shelf_of e old new
-  pub tells : (m : OctetCard) → CardStands old m → is_some orders ≡ not (tells_nothing (answer e m))
-  pub shown : (m : OctetCard) → CardStands old m → is_some orders ≡ true → ShowsReply r (answer e m)
-  pub ordered : IfSome orders (λ orders. (m : OctetCard) → CardStands old m → listed orders ≡ orders_in (answer e m))
-  pub unchanged : is_some orders ≡ false → r ≡ before
-  pub there : is_some timers' ≡ is_some timers
-  pub noted : (m : OctetCard) → CardStands old m → NoteAll (e ∷ []) m timers timers'
+-- A call of a card of octets is this event. If the answer has something to tell, the report tells it; else none is written.
+pub record IsStep (e : Event) (old new : TimedCard) (tells : Bool) (before r : PlainReport) : Type 0 where
+  pub answered : Answer
+  pub called : CalledOfOctets e answered old new
+  pub is : tells ≡ not (tells_nothing answered)
+  pub shown : (m : OctetCard) → AnyStands old.card (with_ports m) → tells ≡ true → ShowsReply r answered
+  pub unchanged : tells ≡ false → r ≡ before
 
 -- What an octet has ended is shown, if that is anything to tell.
 pub record ShowsEnded (ended : LineTold) (tells : Bool) (before r : PlainReport) : Type 0 where
@@ -104,35 +93,23 @@ pub record TellsAtLast (timed : Bool) (line : ℕ) (taken : List ℕ) (from n : 
   pub tells : tells_nothing (answer_after line taken from before m) ≡ false
   pub report : ShowsReply r (reply_seen_by timed (answer_after line taken from before m))
 
--- The orders of the last step, which are the only ones: where none had anything to tell, there are none.
-pub record OrdersLast (line : ℕ) (taken : List ℕ) (from : ℕ) (m : OctetCard) (to : ℕ) (orders : List Order) : Type 0 where
-  pub before : ℕ
-  pub quiet : AllQuiet line taken from before m
-  pub ended : ((to ≡ from + before) × (orders ≡ [])) ⊎ ((to ≡ from + suc before) × (orders ≡ orders_in (answer_after line taken from before m)))
-
 -- So many steps were made of the machine, and the card stands for it after them.
-pub record Exchanged (timed : Bool) (line : ℕ) (taken : List ℕ) (from : ℕ) (m : OctetCard) (card : Held Store) (given given' : List ℕ) (to : ℕ) (r : PlainReport) : Type 0 where
+pub record Exchanged (timed : Bool) (line : ℕ) (taken : List ℕ) (from : ℕ) (m : OctetCard) (card : AnyCard) (given given' : List ℕ) (to : ℕ) (r : PlainReport) : Type 0 where
   pub n : ℕ
   pub within : to ≤ 2 * length taken
-  pub stands : CardStands card (card_after line taken from n m)
+  pub stands : AnyStands card (with_ports (card_after line taken from n m))
   pub octets : given' ≡ given_after line taken from n m given
   pub ended : IsThrough line taken from n m to r ⊎ TellsAtLast timed line taken from n m to r
 
--- The orders of the last are these; all are counted; and what they leave of the links is noted.
-pub record AreMade (line : ℕ) (taken : List ℕ) (from : ℕ) (m : OctetCard) (old new : Held Store) (given given' : List ℕ) (timers timers' : Option CardTimers) (to : ℕ)
-    (orders : List Order) (r : PlainReport) : Type 0 where
-  pub made : Exchanged false line taken from m new given given' to r
-  pub ordered : OrdersLast line taken from m to orders
-  pub counted : counters_in new.frames.lines ≡ all_counted (counters_in old.frames.lines) (moments m.card (meant_all m (steps_made line taken from (to - from))))
-  pub noted : NoteAll (steps_made line taken from (to - from)) m timers timers'
-
-abbrev pub ExchangedBy : Bool → ℕ → List ℕ → ℕ → OctetCard → AnyCard → List ℕ → List ℕ → ℕ → PlainReport → Type 0
-ExchangedBy timed line taken from m (Octets card) given given' to r = Exchanged timed line taken from m card given given' to r
-ExchangedBy timed line taken from m (Frames card) given given' to r = ⊥
+-- All are counted; and what they order is carried out, if the card keeps its own timers.
+pub record AreMade (line : ℕ) (taken : List ℕ) (from : ℕ) (m : OctetCard) (old new : TimedCard) (given given' : List ℕ) (to : ℕ) (r : PlainReport) : Type 0 where
+  pub made : Exchanged false line taken from m new.card given given' to r
+  pub counted : counters_of new.card ≡ all_counted (counters_of old.card) (moments m.card (meant_all m (steps_made line taken from (to - from))))
+  pub carried : CarryOutAll (steps_made line taken from (to - from)) m old.timers new.timers
 
 abbrev pub ExchangedIn : Bool → ℕ → List ℕ → ℕ → OctetCard → HeldCard → List ℕ → List ℕ → ℕ → PlainReport → Type 0
 ExchangedIn timed line taken from m None given given' to r = ⊥
-ExchangedIn timed line taken from m (Some kept) given given' to r = ExchangedBy timed line taken from m kept.card given given' to r
+ExchangedIn timed line taken from m (Some kept) given given' to r = Exchanged timed line taken from m kept.timed.card given given' to r
 
 -- So a call that is several events: its report tells the last, and all are obeyed and counted.
 pub record Exchanges (line : ℕ) (taken : List ℕ) (from : ℕ) (m : OctetCard) (old new : CardHandle) (result : ℕ) (given given' : List ℕ) (to : ℕ)

@@ -90,7 +90,7 @@ pub use Rattle.lapd_c.specs.Cards.{card_of, FramesStand, IsHandle, kind_in, mark
 pub use Rattle.lapd_c.specs.Config.{config_fault, config_in, reading_in, sapi_in, seed_in, side_in}
 pub use Rattle.lapd_c.specs.Counted.{counters_at, Counts}
 pub use Rattle.lapd_c.specs.Counters.{plain_counters, plain_link_counters}
-pub use Rattle.lapd_c.specs.Exchange.{Exchanged, Exchanges, is_exchange, OrdersLast, tells_nothing, step_event, steps_made, with_step}
+pub use Rattle.lapd_c.specs.Exchange.{Exchanged, Exchanges, is_exchange, tells_nothing, step_event, steps_made, with_step}
 pub use Rattle.lapd_c.specs.Frames.{frame_comes, fails, goes, IsGiven, next_at}
 pub use Rattle.lapd_c.specs.Heads.{plain_head}
 pub use Rattle.lapd_c.specs.Kept.{ChangesStandIn, is_timed, Obeys, orders_seen, timers_of, TimersStandIn}

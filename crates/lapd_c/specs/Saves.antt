@@ -27,11 +27,11 @@ image_octets c = if is_some (config_fault c) then 0 else most_octets (config_in 
 
 -- What C holds is, but for its ports, this that may be saved: the card, what it has counted, which links wait, and its timers.
 pub record IsHeldAs (kept : KeptCard) (s : Saved) : Type 0 where
-  pub kind : kind_of kept.card ≡ kind_in s
-  pub lines : FrameCardStands (frames_of kept.card) s.card
-  pub counted : counters_of kept.card ≡ s.counted
+  pub kind : kind_of kept.timed.card ≡ kind_in s
+  pub lines : FrameCardStands (frames_of kept.timed.card) s.card
+  pub counted : counters_of kept.timed.card ≡ s.counted
   pub waits : card_waits s.card kept.refused ≡ s.waits
-  pub timers : MayBeSaved kept.timers s.clock s
+  pub timers : MayBeSaved kept.timed.timers s.clock s
 
 abbrev pub HandleHolds : HeldCard → Saved → Type 0
 HandleHolds None s = ⊥
@@ -59,7 +59,7 @@ pub record IsRead (image : List ℕ) (kept : KeptCard) : Type 0 where
   pub saved : Saved
   pub restored : IsRestored image saved
   pub held : IsHeldAs kept saved
-  pub begins : AnyStands kept.card (begun_as (kind_in saved) saved.card)
+  pub begins : AnyStands kept.timed.card (begun_as (kind_in saved) saved.card)
   pub lines : length kept.refused ≡ saved.card.config.lines
   pub marked : (line place : ℕ) → line < saved.card.config.lines → place < 254 → is_marked (marks_of kept.refused line) place ≡ true → is_there line saved.card place ≡ true
 

@@ -11,7 +11,7 @@ ghost use Rattle.lapd_clock.specs.Given.{lengths_of};
 ghost use Rattle.model_timed.specs.Changes.{unmarked};
 ghost use Rattle.model_timed.specs.Clock.{stopped};
 ghost use Rattle.lapd_card.specs.Kinds.{card_in};
-ghost use Rattle.lapd_c.specs.{ChangesStandIn, TimersStandIn};
+ghost use Rattle.lapd_timed.specs.Stands.{AreOfLines, ChangesStandIn, TimersStandIn};
 
 use crate::card_slot::CardSlot;
 use crate::kept::KeptCard;
@@ -20,7 +20,7 @@ use crate::plain::{NO_CARD, NO_MEMORY, OK, PlainConfig, PlainLengths, SECOND_STA
 use lapd_card::{AnyCard, Card, CardKind, FrameCard};
 use lapd_clock::Lengths;
 use lapd_store::RawShelf;
-use lapd_timed::CardTimers;
+use lapd_timed::{CardTimers, TimedCard};
 use model_line::Config;
 use std::alloc::Global;
 use std::mem::replace;
@@ -130,19 +130,20 @@ fn started(
     kind: CardKind,
     timers: Option<CardTimers>,
 ) -> Option<Box<KeptCard>>
-    requires { first_fault config ≡ None }
+    requires config { first_fault config ≡ None }
+    requires timers { AreOfLines config.lines timers }
     ensures begins { IfSome result (λ kept. Begins (fresh kind config) kept.value) }
-    ensures timers { IfSome result (λ kept. kept.value.timers ≡ timers) }
+    ensures timers { IfSome result (λ kept. kept.value.timed.timers ≡ timers) }
 {
     let shelf = RawShelf::start(alloc, u32::from(config.slots), config.n201).ok()?;
     match kind {
         CardKind::Octets => {
             let card = Card::start(alloc, config, shelf).ok()?;
-            KeptCard::begin(alloc, AnyCard::Octets(card), config, timers)
+            KeptCard::begin(alloc, TimedCard::of(AnyCard::Octets(card), timers), config)
         }
         CardKind::Frames => {
             let card = FrameCard::start(alloc, config, shelf).ok()?;
-            KeptCard::begin(alloc, AnyCard::Frames(card), config, timers)
+            KeptCard::begin(alloc, TimedCard::of(AnyCard::Frames(card), timers), config)
         }
     }
 }
@@ -200,6 +201,7 @@ fn start_timed(
 // The timers of a card of a configuration that is in range, if there is memory for them.
 fn timers_started(alloc: Global, config: Config, lengths: Lengths) -> Option<CardTimers>
     requires { first_fault config ≡ None }
+    ensures lines { IfSome result (λ timers. timers.lines ≡ config.lines) }
     ensures stopped { IfSome result (λ timers. (kind : Kind) → TimersStandIn (Some timers) (card_in (fresh kind config)) (stopped (lengths_of lengths))) }
     ensures unmarked { IfSome result (λ timers. (kind : Kind) → ChangesStandIn (Some timers) (card_in (fresh kind config)) unmarked) }
 {

@@ -11,7 +11,6 @@ use crate::plain::{
 };
 use lapd_card::BareReport;
 use lapd_frame::LAST_TEI;
-use lapd_timed::tei_of_request;
 
 /// A timer of a line expired. One that does not run has no effect, and nothing is told.
 #[unsafe(no_mangle)]
@@ -27,13 +26,13 @@ pub extern "C" fn lapd_expire(
 {
     lend!(kept of handle);
     // The expiries of a card that keeps its own timers are its own.
-    if kept.timers.is_some() {
+    if kept.timed.is_timed() {
         return WRONG_CARD;
     }
-    within!(line, kept.card);
+    within!(line, kept.timed.card());
     let timer = or_answer!(timer.timer());
     let mut told = BareReport::nothing();
-    kept.card.expire(line, timer, &mut told);
+    kept.timed.expire(line, timer, &mut told);
     report.show(&told, None);
     kept.tell_reopened(line, report);
     OK
@@ -56,12 +55,11 @@ pub extern "C" fn lapd_request(
 {
     lend!(kept of handle, line);
     let asked = or_answer!(request_in(request, service, tei, contents));
-    let touched = tei_of_request(&asked);
     let mut told = BareReport::nothing();
-    match kept.card.request(line, asked, &mut told) {
+    match kept.timed.request(line, asked, &mut told) {
         Ok(()) => {
             report.show(&told, None);
-            kept.settle(line, touched, told.orders(), report);
+            kept.settle(line, report);
             OK
         }
         Err(why) => {

@@ -16,7 +16,6 @@ use crate::lend::{lend, or_answer};
 use crate::plain::{NO_FRAME, OK, PlainReport, WRONG_LENGTH, fault_in};
 use lapd_card::{BareReport, FrameCard};
 use lapd_store::RawShelf;
-use lapd_timed::tei_of_frame;
 
 /// Takes a frame that came from a line, from its address to its information, without its check.
 #[unsafe(no_mangle)]
@@ -33,13 +32,13 @@ pub extern "C" fn lapd_frame(
     // It stands before all else, so that it is cleared once.
     let mut told = BareReport::nothing();
     lend!(kept of handle, Frames(card), line);
-    if card.frame(line, octets, &mut told) {
+    if kept.timed.frame(line, octets, &mut told) {
         // Mostly it leads to nothing but orders, and then nothing else is looked for.
-        kept.settle_orders(line, Some(tei_of_frame(octets)), &told.orders, report);
+        kept.settle_orders(line, &told.orders, report);
         return OK;
     }
-    show_delivered(card, line, octets, &told, report);
-    kept.settle(line, Some(tei_of_frame(octets)), told.orders(), report);
+    show_delivered(kept.timed.card().frames(), line, octets, &told, report);
+    kept.settle(line, report);
     OK
 }
 
@@ -76,9 +75,9 @@ pub extern "C" fn lapd_frame_failed(
     lend!(kept of handle, Frames(card), line);
     let fault = or_answer!(fault_in(cause));
     let mut told = BareReport::nothing();
-    card.failed(line, fault, &mut told);
+    kept.timed.failed(line, fault, &mut told);
     report.show(&told, None);
-    kept.settle(line, None, told.orders(), report);
+    kept.settle(line, report);
     OK
 }
 
@@ -99,10 +98,10 @@ pub extern "C" fn lapd_next_frame(
     ensures written { FramesWithRoom line (length out.old) handle.old (λ m. IfSome (next_at line m) (λ next. IsGiven next out.old out.new count.new)) }
 {
     lend!(kept of handle, Frames(card), line);
-    match card.next_frame(line, out) {
+    match kept.timed.next_frame(line, out) {
         Ok(Some(next)) => {
             // This comes first, while what was marked is at hand.
-            let more = card.has_next(line);
+            let more = kept.timed.card().frames().has_next(line);
             *count = next.length;
             kept.settle_given(line, &next.order_list(), more, report);
             OK

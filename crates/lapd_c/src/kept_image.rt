@@ -1,7 +1,9 @@
 //! A card as C holds it, in an image.
 
-ghost use Rattle.std.specs.Prelude.{◌≡◌, ℕ, List, is_some, IfOk, IfErr, IfSome};
-ghost use Rattle.lapd_card.specs.Kinds.{config_of};
+ghost use Rattle.std.specs.Prelude.{◌≡◌, ℕ, List, IfOk, IfErr, IfSome};
+ghost use Rattle.lapd_card.specs.Kinds.{config_of, line_count};
+ghost use Rattle.lapd_timed.specs.Called.{keeps_timers};
+ghost use Rattle.lapd_timed.specs.Stands.{AreOfLines};
 ghost use Rattle.lapd_image.specs.Puts.{Puts};
 ghost use Rattle.lapd_timed.specs.Image.{IsRestoredFrom};
 ghost use Rattle.model_image.specs.Images.{image_of, Saved};
@@ -14,15 +16,15 @@ use crate::kept::KeptCard;
 use crate::plain::{BAD_IMAGE, NO_MEMORY};
 use crate::refused::Refused;
 use crate::waiting::{mark, waits_of};
-use lapd_timed::{ImageFault, Restored, restore, save};
+use lapd_timed::{ImageFault, Restored, TimedCard, restore};
 use std::alloc::Global;
 
 impl KeptCard {
     /// How many octets an image of it takes at most.
     pub(crate) fn image_octets(&self) -> usize
-        ensures { result ≡ most_octets (config_of self.now.card) (is_some self.now.timers) }
+        ensures { result ≡ most_octets (config_of self.now.timed.card) (keeps_timers self.now.timed) }
     {
-        self.card.image_octets(self.timers.is_some())
+        self.timed.card().image_octets(self.timed.is_timed())
     }
 
     /// Writes its image in front of a room, and answers how many octets it has. What does not fit is left out.
@@ -30,8 +32,8 @@ impl KeptCard {
         ensures puts { (s : Saved) → IsHeldAs self.now s → Puts (image_of s) 0 out.old result out.new }
         ensures saved { (s : Saved) → IsHeldAs self.now s → IsSaved s }
     {
-        let waits = waits_of(self.card.frames(), &self.refused);
-        save(&self.card, &waits, &self.timers, out)
+        let waits = waits_of(self.timed.card().frames(), &self.refused);
+        self.timed.save(&waits, out)
     }
 
     /// The card of an image.
@@ -53,6 +55,7 @@ impl KeptCard {
 
     // A card that was restored, with the marks of the links that wait.
     fn resume(alloc: Global, restored: Restored) -> Option<Box<KeptCard>>
+        requires { AreOfLines (line_count restored.card) restored.timers }
         ensures { IfSome result (λ kept. (image : List ℕ) → IsRestoredFrom image restored.card restored.waits restored.timers → IsRead image kept.value) }
     {
         let Restored {
@@ -63,11 +66,7 @@ impl KeptCard {
         let lines = usize::from(card.frames().config().lines);
         let mut refused = Refused::start(alloc, lines).ok()?;
         mark(&mut refused, card.frames(), &waits);
-        let kept = KeptCard {
-            card,
-            refused,
-            timers,
-        };
-        Box::new(alloc, kept).ok()
+        let timed = TimedCard::of(card, timers);
+        Box::new(alloc, KeptCard { timed, refused }).ok()
     }
 }

@@ -11,11 +11,11 @@ macro_rules! lend {
     };
     ($kept:ident of $handle:ident, $line:ident) => {
         lend!($kept of $handle);
-        $crate::lend::within!($line, $kept.card);
+        $crate::lend::within!($line, $kept.timed.card());
     };
     ($kept:ident of $handle:ident, $kind:ident($card:ident)) => {
         lend!($kept of $handle);
-        let lapd_card::AnyCard::$kind($card) = &mut $kept.card else {
+        let lapd_card::AnyCard::$kind($card) = $kept.timed.card() else {
             return $crate::plain::WRONG_CARD;
         };
     };

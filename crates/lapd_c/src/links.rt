@@ -27,7 +27,10 @@ pub extern "C" fn lapd_next_link(
         ⊎ ((result ≡ status.no_more_links) × NoneFrom line (card_in m) place.old)) }
 {
     lend!(kept of handle, line);
-    let (found, state) = or_answer!(first_link(kept.card.frames(), line, *place), NO_MORE_LINKS);
+    let (found, state) = or_answer!(
+        first_link(kept.timed.card().frames(), line, *place),
+        NO_MORE_LINKS
+    );
     *place = found + 1;
     *link = PlainLink::of(found, state);
     OK

@@ -1,7 +1,11 @@
 //! What happens at a card of octets: one that comes, and one that goes; which frame a pull began, and which was heard last, whole
 //! or how it begins.
 
-ghost use Rattle.std.specs.Prelude.{◌≡◌, ◌≢◌, Some, IfOk, IfErr};
+ghost use Rattle.std.specs.Prelude.{◌≡◌, ◌≢◌, ◌≤◌, ◌<◌, length, Some, IfOk, IfErr};
+ghost use Rattle.lapd_c.specs.{contents_or_none, told_at, Shows};
+ghost use Rattle.lapd_card.specs.Kinds.{kind_of, line_count as card_lines};
+ghost use Rattle.lapd_timed.specs.Kinds.{ports_of};
+ghost use Rattle.model_card.specs.declared.kinds.CardKind.TheVariants as kinds;
 ghost use Rattle.lapd_c.specs.{begun_frame_of, begun_of, card_of, heard_frame_of, heard_of, in_front, IsHandle, octet_asked, octet_of, OctetsWithLine, of_octets, pull_asked, Called, Questioned};
 ghost use Rattle.model_card.specs.ports.Card.{answer};
 ghost use Rattle.model_card.specs.ports.Event.{at};
@@ -11,7 +15,7 @@ ghost use Rattle.lapd_c.specs.Statuses as status;
 use crate::card::CardHandle;
 use crate::lend::lend;
 use crate::plain::{NO_FRAME, OK, PlainHead, PlainReport, WRONG_LENGTH};
-use lapd_timed::tei_of_heard;
+use lapd_card::{AnyCard, BareReport};
 use model_bits::Heard;
 
 /// Takes an octet that came from a line, low bit first.
@@ -28,19 +32,31 @@ pub extern "C" fn lapd_octet(
 {
     // Mostly it ends nothing.
     lend!(kept of handle, Octets(card), line);
-    match card.hear(line, octet) {
+    match kept.timed.hear(line, octet) {
         None => {
             report.show_nothing();
             kept.tell_reopened(line, report);
             OK
         }
         Some(told) => {
-            report.show(&told, card.contents(line, &told));
-            let tei = tei_of_heard(card.ended(line));
-            kept.settle(line, Some(tei), told.orders(), report);
+            show_ended(kept.timed.card(), line, &told, report);
+            kept.settle(line, report);
             OK
         }
     }
+}
+
+/// Shows what an octet of a line has ended, with the contents that it delivered.
+pub(crate) fn show_ended(card: &AnyCard, line: usize, told: &BareReport, report: &mut PlainReport)
+    requires kind { kind_of card.now ≡ kinds.Octets }
+    requires within { line < card_lines card.now }
+    ensures { length (contents_or_none (told_at (ports_of card.now) line told.now).contents) ≤ 260
+        → Shows report.new (told_at (ports_of card.now) line told.now) }
+{
+    let AnyCard::Octets(card) = card else {
+        unreachable!();
+    };
+    report.show(told, card.contents(line, told));
 }
 
 /// Gives the next octet of a line to send, low bit first.
@@ -57,10 +73,10 @@ pub extern "C" fn lapd_pull(
     ensures written { OctetsWithLine line handle.old (λ m. octet.new ≡ octet_of (answer (at line port.pull) m)) }
 {
     lend!(kept of handle, Octets(card), line);
-    let pulled = card.pull(line);
+    let pulled = kept.timed.pull(line);
     *octet = pulled.octet;
     report.show_pull(pulled.begun, pulled.orders());
-    kept.settle(line, None, pulled.orders(), report);
+    kept.settle(line, report);
     OK
 }
 

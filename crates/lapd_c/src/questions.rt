@@ -28,7 +28,12 @@ pub extern "C" fn lapd_state(
 {
     lend!(kept of handle, line);
     let (service, tei) = or_answer!(link_in(service, tei));
-    *state = kept.card.frames().state(line, service, tei).unwrap_or(0);
+    *state = kept
+        .timed
+        .card()
+        .frames()
+        .state(line, service, tei)
+        .unwrap_or(0);
     OK
 }
 
@@ -39,7 +44,7 @@ pub extern "C" fn lapd_stored(handle: &mut CardHandle, octets: &mut u32) -> u32
     ensures { Questioned of_any None stored_of handle.old handle.new result octets.old octets.new }
 {
     lend!(kept of handle);
-    *octets = kept.card.stored();
+    *octets = kept.timed.card().stored();
     OK
 }
 
@@ -50,7 +55,7 @@ pub extern "C" fn lapd_limit(handle: &mut CardHandle, octets: &mut u32) -> u32
     ensures { Questioned of_any None limit_of handle.old handle.new result octets.old octets.new }
 {
     lend!(kept of handle);
-    *octets = kept.card.frames().limit();
+    *octets = kept.timed.card().frames().limit();
     OK
 }
 
@@ -61,7 +66,7 @@ pub extern "C" fn lapd_lines(handle: &mut CardHandle, lines: &mut u32) -> u32
     ensures { Questioned of_any None lines_of handle.old handle.new result lines.old lines.new }
 {
     lend!(kept of handle);
-    *lines = kept.card.lines().min(MOST_LINES) as u32;
+    *lines = kept.timed.card().lines().min(MOST_LINES) as u32;
     OK
 }
 
@@ -79,7 +84,7 @@ pub extern "C" fn lapd_room(
 {
     lend!(kept of handle, line);
     let (service, tei) = or_answer!(link_in(service, tei));
-    match kept.card.frames().room(line, service, tei) {
+    match kept.timed.card().frames().room(line, service, tei) {
         Ok(is) => {
             *room = PlainRoom::of(is);
             OK
@@ -102,7 +107,7 @@ pub extern "C" fn lapd_counters(
         → (result ≡ status.ok) × (counters.new ≡ plain_counters (get_or (counters_of card) line none_counted))) }
 {
     lend!(kept of handle, line);
-    *counters = PlainCounters::of(kept.card.frames().counters(line));
+    *counters = PlainCounters::of(kept.timed.card().frames().counters(line));
     OK
 }
 
@@ -121,7 +126,7 @@ pub extern "C" fn lapd_link_counters(
     lend!(kept of handle, line);
     let (service, tei) = or_answer!(link_in(service, tei));
     let counts = or_answer!(
-        kept.card.frames().link_counts(line, service, tei),
+        kept.timed.card().frames().link_counts(line, service, tei),
         REFUSED_NO_LINK
     );
     *counters = PlainLinkCounters::of(counts);

@@ -14,7 +14,6 @@ use crate::plain::{
     NO_TIMER, OK, PlainLengths, PlainReport, REFUSED_NO_LINK, WRONG_CARD, WRONG_TIME, link_in,
 };
 use lapd_card::BareReport;
-use lapd_timed::tei_of_timer;
 
 /// The time is now a moment; and the timer that is due first, if one is, expires: the report tells which it was, of which line, and
 /// what its expiry led to.
@@ -27,10 +26,8 @@ pub extern "C" fn lapd_fall_due(handle: &mut CardHandle, now: u64, report: &mut 
     ensures due { LetsFallDue now handle.old handle.new result report.new }
 {
     lend!(kept of handle);
-    if let Some(timers) = &mut kept.timers {
-        if timers.pass(now) {
-            return NO_TIMER;
-        }
+    if kept.timed.pass(now) {
+        return NO_TIMER;
     }
     fall_due(handle, now, report)
 }
@@ -46,21 +43,17 @@ fn fall_due(handle: &mut CardHandle, now: u64, report: &mut PlainReport) -> u32
     ensures due { LetsFallDue now handle.old handle.new result report.new }
 {
     lend!(kept of handle);
-    let Some(timers) = &mut kept.timers else {
+    if !kept.timed.is_timed() {
         return WRONG_CARD;
-    };
-    if !timers.go_to(now) {
-        return WRONG_TIME;
     }
-    let (line, timer) = or_answer!(timers.due(), NO_TIMER);
-    // It is a line of the card: of one that stands for a machine the contract says that the answer is OK.
-    if line >= kept.card.lines() {
-        return NO_TIMER;
+    match kept.timed.go_to(now) {
+        Ok(()) => {}
+        Err(_) => return WRONG_TIME,
     }
     let mut told = BareReport::nothing();
-    kept.card.expire(line, timer, &mut told);
+    let (line, timer) = or_answer!(kept.timed.fall_due(&mut told), NO_TIMER);
     report.show(&told, None);
-    kept.settle(line, Some(tei_of_timer(timer)), told.orders(), report);
+    kept.settle(line, report);
     report.show_expired(timer);
     OK
 }
@@ -75,10 +68,10 @@ pub extern "C" fn lapd_next_moment(handle: &mut CardHandle, moment: &mut u64) ->
     ensures told { (m : machine.Card) (c : Clock) → TimersStandIn (timers_of handle.old) m c → TellsMoment (next_moment c) result moment.new }
 {
     lend!(kept of handle);
-    let Some(timers) = &mut kept.timers else {
+    if !kept.timed.is_timed() {
         return WRONG_CARD;
-    };
-    *moment = or_answer!(timers.next_moment(), NO_TIMER);
+    }
+    *moment = or_answer!(kept.timed.next_moment(), NO_TIMER);
     OK
 }
 
@@ -99,13 +92,12 @@ pub extern "C" fn lapd_changed_at(
     ensures told { WithMarks handle.old (λ m marks. line < m.config.lines → TellsWord (changed_of line service tei m marks) result moment.new) }
 {
     lend!(kept of handle);
-    let Some(timers) = &mut kept.timers else {
+    if !kept.timed.is_timed() {
         return WRONG_CARD;
-    };
-    within!(line, kept.card);
+    }
+    within!(line, kept.timed.card());
     let (service, tei) = or_answer!(link_in(service, tei));
-    let changed = timers.changed_within(kept.card.frames(), line, service, tei);
-    *moment = or_answer!(changed, REFUSED_NO_LINK);
+    *moment = or_answer!(kept.timed.changed_at(line, service, tei), REFUSED_NO_LINK);
     OK
 }
 
@@ -121,10 +113,10 @@ pub extern "C" fn lapd_card_set_lengths(handle: &mut CardHandle, lengths: &Plain
         → (result ≡ status.ok) × TimersStandIn (timers_of handle.new) m (with_lengths (lengths_in lengths.now) c) }
 {
     lend!(kept of handle);
-    let Some(timers) = &mut kept.timers else {
+    if !kept.timed.is_timed() {
         return WRONG_CARD;
-    };
+    }
     let lengths = or_answer!(lengths.read());
-    timers.set_lengths(lengths);
+    kept.timed.set_lengths(lengths);
     OK
 }

@@ -1,7 +1,7 @@
 -- What happens on a card of either kind.
 use Rattle.std.proofs.Common.{◌*◌, cond, eq-eqb}
 use Rattle.model_card.specs.Card.{line_at}
-use Rattle.lapd_sim.proofs.Vocabulary.{◌≡◌, ◌<◌, ◌≤◌, ℕ, None, Some, CardKind, refl, sym, ap, ◌∙◌, subst, arith, Store, Config, ranges_of, Reply, Event, What, at, of_octets, of_frames, reply, after, card_after, meant_by, reply_in, reply_of_octets, reply_of_frames, told, Setup, happened, orders_in, reply_text, with_event, Output, IsPut, IsStuck, Puts, Octets, Frames, shelf_of, kind_of}
+use Rattle.lapd_sim.proofs.Vocabulary.{◌≡◌, ◌<◌, ◌≤◌, ℕ, None, Option, Some, CardKind, refl, sym, ap, ◌∙◌, subst, arith, Store, Config, ranges_of, Reply, Event, What, at, of_octets, of_frames, reply, after, card_after, meant_by, reply_in, reply_of_octets, reply_of_frames, told, Setup, happened, orders_in, reply_text, with_event, Output, IsPut, IsStuck, Puts, Octets, Frames, shelf_of, kind_of}
 use Rattle.lapd_sim.proofs.Vocabulary.{config_of, counters_of, OnBoard, Leads, [], scene, Tells, SetupStands, Each, Sends, Hears, AnyCard, AnyLeads, AnyStands, CardStands, FrameCardStands, Machine, alone, with_ports, card_in, frames_of, expiry, request, List, Result, Ok, Err, Card, Request, Counters, frame_moment, option_map_or, option_map, option_to_list}
 use Rattle.lapd_sim.specs.declared.setup.Setup as rust
 use Rattle.lapd_card.specs.Card as octets_card
@@ -23,7 +23,7 @@ use Rattle.lapd_sim.specs.machine.Board as machine
 unfoldable use Rattle.lapd_sim.specs.machine.Board.{counted}
 use Rattle.lapd_sim.specs.machine.Steps.{held, held_in}
 use Rattle.lapd_clock.specs.Timers.{Expiry}
-use Rattle.lapd_timed.specs.Stands.{ChangesStand}
+use Rattle.lapd_timed.specs.Stands.{ChangesStandIn}
 use Rattle.lapd_sim.specs.Stands.{ClockStands}
 use Rattle.lapd_timed.specs.Kinds.{LedByFrames, LedByOctets, room_of}
 use Rattle.lapd_timed.specs.TimedStands.{FramesMarked, FramesStand, OctetsMarked, OctetsStand, Steps}
@@ -181,8 +181,10 @@ GoneOn new event b c marks = Noted new marks (after event b).card.card (obeyed e
 seen_state : (now state : ℕ) (mark : changes.Mark) → mark.state ≡ state → seen now state mark ≡ mark
 seen_state now state mark is = ap (λ b. cond b mark (record { state = state; moment = now })) (eq-eqb mark.state state is)
 
-seen_again : (now : ℕ) (card : Card) (marks : Marks) (old new : CardTimers) → ChangesStand old card marks → ChangesStand new card (noted now card marks) → ChangesStand new card marks
-seen_again now card marks old new before h =
+seen_again : (now : ℕ) (card : Card) (marks : Marks) (old new : Option CardTimers) → ChangesStandIn old card marks → ChangesStandIn new card (noted now card marks) → ChangesStandIn new card marks
+seen_again now card marks old None before h = absurd h
+seen_again now card marks None (Some new) before h = absurd before
+seen_again now card marks (Some old) (Some new) before h =
     let state : (line number : ℕ) → line < new.lines → number < 2 * new.terminals → (marks line number).state ≡ standing number (line_at line card) = λ line number in_line in_links.
     before.up_to_date line number (subst (λ n. line < n) (sym h.lines_are ∙ before.lines_are) in_line) (subst (λ n. number < n) (sym h.terminals_are ∙ before.terminals_are) in_links) in
     record {
@@ -277,13 +279,13 @@ timed_due old new steps b on c marks k x is = go (kind_of old.card) refl
         let t : octets_timed.TimedOctetCard = record { card = b.card; clock = c } in
         let stands : OctetsStand old t = record { card_stands = octets_on old.card b on o; timers_stand = k.timed } in
         let after_it = subst (λ d. OctetsStand new (option_map_or (with_expiry octets_timed.octets t) d t)) is (steps.octets t stands) in
-        let noted_then = subst (λ d. let u = option_map_or (with_expiry octets_timed.octets t) d t in ChangesStand new.timers u.card.card (marked changes.inside u marks)) is (steps.octets_marked t marks stands k.noted) in
+        let noted_then = subst (λ d. let u = option_map_or (with_expiry octets_timed.octets t) d t in ChangesStandIn new.timers u.card.card (marked changes.inside u marks)) is (steps.octets_marked t marks stands k.noted) in
         on_octets x.line (expiry x.timer) (port.expiry x.timer) refl b (on.kind ∙ o) (Noted new marks) (without_first c) (record { timed = after_it.timers_stand; noted = noted_then })
     go kind.Frames o =
         let t : frames_timed.TimedCard = record { card = b.card.card; clock = c } in
         let stands : FramesStand old t = record { card_stands = frames_on old.card b on o; timers_stand = k.timed } in
         let after_it = subst (λ d. FramesStand new (option_map_or (with_expiry frames_timed.frames t) d t)) is (steps.frames t stands) in
-        let noted_then = subst (λ d. let u = option_map_or (with_expiry frames_timed.frames t) d t in ChangesStand new.timers u.card (marked changes.itself u marks)) is (steps.frames_marked t marks stands k.noted) in
+        let noted_then = subst (λ d. let u = option_map_or (with_expiry frames_timed.frames t) d t in ChangesStandIn new.timers u.card (marked changes.itself u marks)) is (steps.frames_marked t marks stands k.noted) in
         on_frames x.line (expiry x.timer) (line_event.expiry x.timer) refl b (on.kind ∙ o) (Noted new marks) (without_first c) (record { timed = after_it.timers_stand; noted = noted_then })
 
 -- the time

@@ -1,14 +1,15 @@
 -- What has been written, and what a setup stands for, while it waits.
-use Rattle.lapd_sim.proofs.Vocabulary.{◌≡◌, ℕ, ◌+◌, ◌-◌, ◌<◌, ◌≤◌, arith, none-some, orders_in, List, [], ◌∷◌, ◌++◌, Some, None, Ok, Err, refl, sym, ap, ◌∙◌, subst, at, expiry, reply, told_beside, told_text, AreInRange, Expiry, due_by, time_until, Setup, Scene, reply_text, at_expiry, happened, expired, until, scene, Tells, SetupStands, HasExpired, puts_nothing, puts_then}
+use Rattle.lapd_sim.proofs.Vocabulary.{◌≡◌, ℕ, Option, ◌+◌, ◌-◌, ◌^◌, ◌<◌, ◌≤◌, arith, none-some, orders_in, List, [], ◌∷◌, ◌++◌, Some, None, Ok, Err, refl, sym, ap, ◌∙◌, subst, at, expiry, reply, told_beside, told_text, AreInRange, Expiry, due_by, time_until, Setup, Scene, reply_text, at_expiry, happened, expired, until, scene, Tells, SetupStands, HasExpired, puts_nothing, puts_then}
 use Rattle.lapd_sim.proofs.Vocabulary.{stuck_more}
 use Rattle.lapd_sim.proofs.Vocabulary.{Output, IsPut}
 use Rattle.lapd_sim.proofs.Vocabulary.{IsStuck, Puts, WriteFailed, expiry_lowers, until-expired, until-over, text_grows}
 use Rattle.std.specs.List.{sum_by}
-use Rattle.lapd_clock.specs.Given.{lengths_of}
-use Rattle.lapd_clock.specs.declared.lengths.Lengths as rust_lengths
 use Rattle.lapd_link_steps.specs.declared.report.BareReport.{BareReport}
 use Rattle.lapd_clock.specs.OwnPlaces.{timers_in}
-use Rattle.model_timed.specs.Clock.{at_moment}
+use Rattle.lapd_timed.specs.Stands.{TimersStandIn}
+use Rattle.lapd_timed.specs.declared.card_timers.CardTimers.{CardTimers}
+use Rattle.model_card.specs.Card.{Card}
+use Rattle.model_timed.specs.Clock.{at_moment, Clock}
 use Rattle.model_timed.proofs.Orders.{now-stays}
 use Rattle.lapd_sim.proofs.OfMachine.Expiries.{first_is_due}
 use Rattle.lapd_sim.specs.declared.setup.Setup as rust
@@ -29,11 +30,20 @@ waits_begins s t end m h = record {
 }
 
 -- its timers run a millisecond at least
-sound : (l : rust_lengths.Lengths) → AreInRange (lengths_of l)
-sound l = record { t200 = l.least.0; t203 = l.least.1; t201 = l.least.2; t202 = l.least.3; t200_most = l.most.0; t203_most = l.most.1; t201_most = l.most.2; t202_most = l.most.3 }
-
 in_range : (s : rust.Setup) (m : Setup) → SetupStands s m → AreInRange m.clock.lengths
-in_range s m h = subst AreInRange (sym h.timers.timed.clock_is.lengths) (sound s.timed.timers.lengths)
+in_range s m h = go s.timed.timers h.timers.timed
+  where
+    go : (kept : Option CardTimers) → TimersStandIn kept m.board.card.card m.clock → AreInRange m.clock.lengths
+    go None stood = absurd stood
+    go (Some timers) stood = stood.clock_is.within_hour.lengths
+
+-- and its moment is one that may be told
+pub in_time : (s : rust.Setup) (m : Setup) → SetupStands s m → m.clock.now < 2 ^ 63
+in_time s m h = go s.timed.timers h.timers.timed
+  where
+    go : (kept : Option CardTimers) → TimersStandIn kept m.board.card.card m.clock → m.clock.now < 2 ^ 63
+    go None stood = absurd stood
+    go (Some timers) stood = subst (λ n. n < 2 ^ 63) (sym stood.clock_is.now) timers.in_time
 
 module _ (s new : rust.Setup) (before after last : Output) (end line : ℕ) (report : BareReport) (m : Setup) (w : Waits s before after end m) (x : HasExpired end line report new w.by_now.setup) where
   abbrev said_then : List ℕ
@@ -71,13 +81,19 @@ waits_over s new before after end m w none stands =
     subst (Tells {E = WriteFailed} (Ok tt) before after (SetupStands new)) (sym (w.same ∙ until-over end w.by_now none)) (w.written, stands)
 
 -- with each expiry, the time that is left falls
-abbrev pub time_left : ℕ → List Expiry → ℕ
-time_left end moments = sum_by (λ e. end + 1 - e.moment) (timers_in moments)
+abbrev pub time_left : ℕ → Option CardTimers → ℕ
+time_left end None = 0
+time_left end (Some timers) = sum_by (λ e. end + 1 - e.moment) (timers_in timers.moments)
 
-pub falls : (s new : rust.Setup) (end line : ℕ) (report : BareReport) (m : Setup) → SetupStands s m → HasExpired end line report new m → time_left end new.timed.timers.moments < time_left end s.timed.timers.moments
+left-is : (end : ℕ) (kept : Option CardTimers) (card : Card) (clock : Clock) → TimersStandIn kept card clock → time_until end clock ≡ time_left end kept
+left-is end None card clock stood = absurd stood
+left-is end (Some timers) card clock stood = ap (sum_by (λ (e : Expiry). end + 1 - e.moment)) stood.clock_is.running
+
+pub falls : (s new : rust.Setup) (end line : ℕ) (report : BareReport) (m : Setup) → SetupStands s m → HasExpired end line report new m → time_left end new.timed.timers < time_left end s.timed.timers
 falls s new end line report m h x =
-    subst (λ es. sum_by (λ (e : Expiry). end + 1 - e.moment) es < time_left end s.timed.timers.moments) x.stands.timers.timed.clock_is.running
-    (subst (λ es. time_until end (happened (at_expiry m) (at line (expiry x.timer))).clock < sum_by (λ (e : Expiry). end + 1 - e.moment) es) h.timers.timed.clock_is.running
+    let next = happened (at_expiry m) (at line (expiry x.timer)) in
+    subst (λ n. n < time_left end s.timed.timers) (left-is end new.timed.timers next.board.card.card next.clock x.stands.timers.timed)
+    (subst (λ n. time_until end next.clock < n) (left-is end s.timed.timers m.board.card.card m.clock h.timers.timed)
     (expiry_lowers end line x.timer (line, x.timer) m (in_range s m h) x.due))
 
 -- and the moment is no later than the end

@@ -4,7 +4,7 @@ use Rattle.lapd_transcript.specs.Listened.{Hears}
 use Rattle.lapd_transcript.specs.Terminal.{Sends}
 use Rattle.lapd_sim.specs.machine.Setup as machine
 use Rattle.lapd_card.specs.Kinds.{counters_of}
-use Rattle.lapd_timed.specs.Stands.{ChangesStand, TimersStand}
+use Rattle.lapd_timed.specs.Stands.{ChangesStandIn, TimersStandIn}
 use Rattle.lapd_timed.specs.declared.card_timers.CardTimers.{CardTimers}
 use Rattle.model_card.specs.Card.{Card}
 use Rattle.model_timed.specs.Changes.{Marks}
@@ -19,9 +19,9 @@ Each R (x ∷ xs) (y ∷ ys) = R x y × Each R xs ys
 Each R _ _ = ⊥
 
 -- The timers of a card stand for its clock, and what they have noted of its links for these marks.
-pub record ClockStands (timers : CardTimers) (card : Card) (clock : Clock) (marks : Marks) : Type 0 where
-  pub timed : TimersStand timers card clock
-  pub noted : ChangesStand timers card marks
+pub record ClockStands (timers : Option CardTimers) (card : Card) (clock : Clock) (marks : Marks) : Type 0 where
+  pub timed : TimersStandIn timers card clock
+  pub noted : ChangesStandIn timers card marks
 
 -- The card, its counters, its timers; each terminal, and what each listener has heard.
 pub record SetupStands (b : Setup) (m : machine.Setup) : Type 0 where

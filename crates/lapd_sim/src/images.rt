@@ -59,10 +59,7 @@ impl Setup {
         match restore(self.alloc, &self.image.as_slice()[..length]) {
             Ok(restored) => {
                 let Restored { card, timers, .. } = restored;
-                let Some(timers) = timers else {
-                    unreachable!();
-                };
-                self.timed = TimedCard::new(card, timers);
+                self.timed = TimedCard::of(card, timers);
                 Ok(())
             }
             Err(ImageFault::OutOfMemory) => Err(LineFault::OutOfMemory),

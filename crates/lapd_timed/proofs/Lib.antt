@@ -26,6 +26,7 @@ pub mod OctetMeans
 pub mod HeardTouches
 pub mod MarkedSteps
 pub mod Events
+pub mod Led
 pub mod Steps
 pub mod Spelled
 pub mod Refilled

@@ -1,6 +1,5 @@
 -- Each timer of a link is at its place alone.
-use Rattle.lapd_clock.proofs.Vocabulary.{◌≡◌, ◌≢◌, ℕ, zero, suc, ◌<◌, ◌≤◌, Bool, true, false, cond, ◌&&◌, ◌==◌, List, [], ◌∷◌, length, filter, refl, sym, ap, ◌∙◌, subst, arith, nat_tests, inl, inr, cases_lt, cases_eq, AllByRecursion, Timer, is_same, Expiry, is_of, never, nat_eq_equiv, eq_by_cmp_equiv, set}
-use Rattle.lapd_clock.proofs.TimerOrder.{same_timer, timer_total}
+use Rattle.lapd_clock.proofs.Vocabulary.{◌≡◌, ◌≢◌, ℕ, zero, suc, ◌<◌, ◌≤◌, Bool, true, false, cond, ◌&&◌, ◌==◌, List, [], ◌∷◌, length, filter, refl, sym, ap, ◌∙◌, subst, arith, nat_tests, inl, inr, cases_lt, cases_eq, AllByRecursion, Timer, is_same, Expiry, is_of, never, set}
 use Rattle.lapd_frame.specs.declared.services.Service.{Service}
 use Rattle.model_link.specs.declared.timers.LinkTimer.{LinkTimer}
 use Rattle.model_line.specs.Line.{service_at, place_at, link_number}

@@ -1,5 +1,6 @@
 -- What the timers of a card stand for: the clock of a timed card.
-use Rattle.std.specs.Prelude.{◌≡◌, ◌⊎◌, ℕ, ◌+◌, ◌*◌, ◌<◌, ◌≤◌, All, Bool, List, Some}
+use Rattle.std.specs.Prelude.{◌≡◌, ◌⊎◌, ℕ, ◌+◌, ◌*◌, ◌<◌, ◌≤◌, All, Bool, List, Option, None, Some}
+use Rattle.std.specs.Option.{option_map_or}
 use Rattle.lapd_clock.specs.Given.{lengths_of}
 use Rattle.lapd_clock.specs.Timer.{Timer, Lengths, AreInRange}
 use Rattle.lapd_clock.specs.Timers.{Expiry}
@@ -79,3 +80,24 @@ AreAmid e timers m clock = AreAt (IsOnAmid e m) (held timers) m clock
 -- And what is noted of the links is so of those of the card.
 abbrev pub ChangesStand : CardTimers → Card → Marks → Type 0
 ChangesStand timers card marks = AreMarks timers.lines (2 * timers.terminals) timers.changes card marks
+
+-- A card may keep its own timers, or none: then nothing is said of a clock, nor of marks.
+abbrev pub TimersStandIn : Option CardTimers → Card → Clock → Type 0
+TimersStandIn None card clock = ⊥
+TimersStandIn (Some timers) card clock = TimersStand timers card clock
+
+abbrev pub AreLeftIn : Event → Option CardTimers → Card → Clock → Type 0
+AreLeftIn e None card clock = ⊥
+AreLeftIn e (Some timers) card clock = AreLeft e timers card clock
+
+abbrev pub ChangesStandIn : Option CardTimers → Card → Marks → Type 0
+ChangesStandIn None card marks = ⊥
+ChangesStandIn (Some timers) card marks = ChangesStand timers card marks
+
+-- They are of so many lines; and their moment, which is 0 of none.
+abbrev pub AreOfLines : ℕ → Option CardTimers → Type 0
+AreOfLines lines timers = option_map_or (λ t. t.lines) timers lines ≡ lines
+
+abbrev pub moment_of : Option CardTimers → ℕ
+moment_of None = 0
+moment_of (Some timers) = timers.moment

@@ -44,7 +44,7 @@ mod touches;
 mod wrong_time;
 
 pub use card_timers::CardTimers;
-pub use saved::{ImageFault, MOST_LINES, Restored, restore, save};
+pub use saved::{ImageFault, MOST_LINES, Restored, restore};
 pub use timed_card::TimedCard;
 pub use touches::{tei_of_frame, tei_of_heard, tei_of_request, tei_of_timer};
 pub use wrong_time::WrongTime;

@@ -36,19 +36,6 @@ impl CardTimers {
         }
     }
 
-    /// The same after an event of a line, if the card has it. An owner that has the card besides its timers needs no more.
-    #[inline(always)]
-    pub fn note_within<S: Shelf>(&mut self, card: &FrameCard<S>, line: usize, tei: u8)
-        ensures held { held self.new ≡ held self.old }
-        ensures noted { (old new : Card) (marks : Marks) → FrameStands S.store card.now new → line < new.config.lines
-            → IsSameBut self.old.lines (2 * self.old.terminals) line (IsTouched line tei new) old new → ChangesStand self.old old marks
-            → ChangesStand self.new new (noted self.old.moment new marks) }
-    {
-        if line < self.lines && line < card.lines() {
-            self.note(card, line, tei);
-        }
-    }
-
     /// Notes the states of the two links of a TEI of a line, where the TEI is on it: after an event that concerns no others.
     #[inline(always)]
     fn note_tei<S: Shelf>(&mut self, card: &FrameCard<S>, line: usize, tei: u8)

@@ -45,7 +45,7 @@ impl CardTimers {
     /// The same, of the orders as a report has them.
     // It is compiled into its caller: so where one order starts the T203 that falls due first anew, nothing is called.
     #[inline(always)]
-    pub fn obey_list<S: Shelf>(
+    pub(crate) fn obey_list<S: Shelf>(
         &mut self,
         card: &FrameCard<S>,
         line: usize,

@@ -1,10 +1,11 @@
 //! A card and its timers in an image.
 
-ghost use Rattle.std.specs.Prelude.{◌≡◌, ◌<◌, ◌≤◌, true, Option, is_some, length, flat_map, take, IfOk, IfErr, IfSome};
+ghost use Rattle.std.specs.Prelude.{◌≡◌, ◌<◌, ◌≤◌, Option, is_some, length, flat_map, take, IfOk, IfErr};
 ghost use Rattle.lapd_card.specs.Image.{IsSavedConfig};
 ghost use Rattle.lapd_card.specs.Kinds.{line_count};
 ghost use Rattle.lapd_image.specs.Puts.{Puts};
 ghost use Rattle.lapd_image.specs.Numbers.{number};
+ghost use Rattle.lapd_timed.specs.Stands.{AreOfLines};
 ghost use Rattle.lapd_timed.specs.Image.{card_part, head_of, is_octets, lines_in, AreAllMarks, IsRestoredFrom, IsSavedCard, StandsFor};
 ghost use Rattle.lapd_timed.specs.declared.saved.ImageFault.TheVariants as faults;
 ghost use Rattle.model_line.specs.ConfigImage.{config as image_of_config};
@@ -96,29 +97,6 @@ impl From<RestoreFault> for ImageFault {
     }
 }
 
-/// Writes the image of a card into a room, from its front on, and answers how many octets it has. `waits` says of each line which
-/// links wait for room, as [`Restored`] has it; if one is marked whose TEI is not on the line, no restore takes the image. What
-/// does not fit is left out; `image_octets` of `lapd_card` says how much room is enough.
-pub fn save(
-    card: &AnyCard,
-    waits: &[u16; MOST_LINES],
-    timers: &Option<CardTimers>,
-    out: &mut [u8],
-) -> usize
-    ensures within { result ≤ length out.new }
-    ensures puts { (s : Saved) → StandsFor card.now waits.now timers.now s → Puts (image_of s) 0 out.old result out.new }
-    // And what stands there may be saved, if links wait only where there is a TEI: so a restore takes it.
-    ensures saved { (s : Saved) → StandsFor card.now waits.now timers.now s → AreAllMarks s → IsSaved s }
-{
-    match timers {
-        Some(timers) => {
-            let at = save_card(card, waits, true, out);
-            timers.save(out, at)
-        }
-        None => save_card(card, waits, false, out),
-    }
-}
-
 /// Writes what an image has before the timers.
 // (Apart, as `restore_card`.)
 #[inline(never)]
@@ -185,7 +163,7 @@ fn save_waits(lines: usize, waits: &[u16; MOST_LINES], out: &mut [u8], at: usize
 /// memory is refused.
 pub fn restore(alloc: Global, octets: &[u8]) -> Result<Restored, ImageFault>
     ensures read { IfOk result (λ restored. IsRestoredFrom octets.now restored.card restored.waits restored.timers) }
-    ensures lines { IfOk result (λ restored. IfSome restored.timers (λ timers. timers.lines ≡ line_count restored.card)) }
+    ensures lines { IfOk result (λ restored. AreOfLines (line_count restored.card) restored.timers) }
     ensures none { IfErr result (λ fault. fault ≡ faults.BadImage → (s : Saved) → IsSaved s → image_of s ≡ octets.now → ⊥) }
 {
     let mut reader = Reader::new(octets);

@@ -3,7 +3,7 @@ use Rattle.std.proofs.Common.{arith, ◌≡◌, ℕ, ◌<◌, List, [], ◌∷�
 use Rattle.std.proofs.lemmas.List.Sums.{fold-append}
 use Rattle.std.specs.Prelude.{option_to_list}
 use Rattle.lapd_card.specs.FrameStands.{FrameStands}
-use Rattle.lapd_card.specs.Kinds.{alone, config_of, counters_of, frames_of, kind_of, shelf_of, with_ports, AnyLeads, AnyStands, Machine}
+use Rattle.lapd_card.specs.Kinds.{alone, counters_of, frames_of, kind_of, shelf_of, with_ports, AnyLeads, AnyStands, Machine}
 use Rattle.lapd_card.specs.Kinds.{answer as kinds_answer}
 use Rattle.lapd_card.specs.Stands.{meaning_counted}
 use Rattle.lapd_card.specs.declared.kinds.AnyCard.{AnyCard}
@@ -13,9 +13,10 @@ use Rattle.lapd_card.proofs.OctetsTaken.{meanings-count}
 use Rattle.lapd_card.proofs.OneOctet.{IsPassedOn, meant_is, passed_answer}
 use Rattle.lapd_count.specs.declared.counters.Counters.{Counters}
 use Rattle.lapd_timed.specs.Called.{CalledOfFrames, CalledOfOctets}
-use Rattle.lapd_timed.specs.Kinds.{LedByFrames, LedByOctets, room_of}
+use Rattle.lapd_timed.specs.Kinds.{room_of}
 use Rattle.lapd_timed.specs.TimedStands.{FramesStand, OctetsStand}
 use Rattle.lapd_timed.specs.declared.timed_card.TimedCard.{TimedCard}
+use Rattle.lapd_timed.proofs.Led.{frames-led, octets-led}
 use Rattle.model_card.specs.Card.{Card}
 use Rattle.model_card.specs.Counted.{all_counted, moment_counted, moment_of}
 use Rattle.model_card.specs.Event as frame
@@ -74,39 +75,26 @@ octets-driven = record {
 
 -- ---- what an event is
 
--- An event moves a card of one kind on, and is counted.
-pub frames-move : (e : frame.Event) (old new : AnyCard) → LedByFrames e old new
-    → (kind_of new ≡ kind_of old) × (config_of new ≡ config_of old) × ((m : Card) → AnyStands old (alone m) → counters_of new ≡ moment_counted (counters_of old) (moment_of m e))
-frames-move e (Frames old) (Frames new) leads = (refl, leads.config, leads.counted)
-frames-move e (Frames old) (Octets new) leads = absurd leads
-frames-move e (Octets old) new leads = absurd leads
-
-octets-move : (e : octet.Event) (old new : AnyCard) → LedByOctets e old new
-    → (kind_of new ≡ kind_of old) × (config_of new ≡ config_of old) × ((m : OctetCard) → AnyStands old (with_ports m) → counters_of new ≡ meaning_counted (counters_of old) m e)
-octets-move e (Octets old) (Octets new) leads = (refl, leads.config, leads.counted)
-octets-move e (Octets old) (Frames new) leads = absurd leads
-octets-move e (Frames old) new leads = absurd leads
-
 -- a frame, a fault, or a call for the next frame
 pub frame-happened : (e : frame.Event) (a said : line_event.Answer) (old new : TimedCard) → said ≡ a → CalledOfFrames e a old new → Happened of_frames e (answered e.line said) old new
 unfolding moments
 frame-happened e a said old new same called =
-    let moves = frames-move e old.card new.card called.leads in
+    let led = frames-led e old.card new.card called.leads in
     record {
-      kind = moves.0;
-      config = moves.1;
-      counted = λ t s. moves.2 t.card s.card_stands;
+      kind = led.kind;
+      config = led.config;
+      counted = λ t s. led.counted t.card s.card_stands;
       answers = λ t s. ap (answered e.line) (same ∙ called.answers t.card s.card_stands);
     }
 
 -- an octet, or a pull
 pub octet-happened : (e : octet.Event) (a said : port.Answer) (old new : TimedCard) → said ≡ a → CalledOfOctets e a old new → Happened of_octets e (by_port e.line said) old new
 octet-happened e a said old new same called =
-    let moves = octets-move e old.card new.card called.leads in
+    let led = octets-led e old.card new.card called.leads in
     record {
-      kind = moves.0;
-      config = moves.1;
-      counted = λ t s. moves.2 t.card s.card_stands ∙ sym (octet-counted (counters_of old.card) t.card e);
+      kind = led.kind;
+      config = led.config;
+      counted = λ t s. led.counted t.card s.card_stands ∙ sym (octet-counted (counters_of old.card) t.card e);
       answers = λ t s. ap (by_port e.line) (same ∙ called.answers t.card s.card_stands);
     }
 

@@ -14,14 +14,15 @@ use Rattle.model_card.specs.Card.{Card}
 use Rattle.model_timed.specs.Clock.{Clock, due, first_due, without_first}
 use Rattle.model_timed.specs.Timed.{Kind, Timed, Step, happens, time, falls_due, after, expiry_at, with_event, with_expiry}
 use Rattle.model_timed.proofs.Orders.{all-run}
-use Rattle.lapd_timed.specs.Stands.{TimersStand}
+use Rattle.lapd_timed.specs.Stands.{TimersStandIn}
 use Rattle.lapd_timed.specs.declared.card_timers.CardTimers.{CardTimers}
 use Rattle.laws_promises.specs.TimedRun.{is_wrong, served}
 unfoldable use Rattle.laws_promises.specs.TimedRun.{events_in}
 
 -- Timers that stand for a clock run at lines that the card has.
-pub run-at-lines : (timers : CardTimers) (m : Card) (c : Clock) → TimersStand timers m c → AllByRecursion (λ (x : Expiry). x.line < m.config.lines) c.running
-run-at-lines timers m c s =
+pub run-at-lines : (timers : Option CardTimers) (m : Card) (c : Clock) → TimersStandIn timers m c → AllByRecursion (λ (x : Expiry). x.line < m.config.lines) c.running
+run-at-lines None m c s = absurd s
+run-at-lines (Some timers) m c s =
     subst (AllByRecursion (λ (x : Expiry). x.line < m.config.lines)) (sym s.clock_is.running)
     (subst (λ n. AllByRecursion (λ (x : Expiry). x.line < n) (timers_in timers.moments)) (sym s.clock_is.lines)
     (All-in_order (λ (x : Expiry). x.line < timers.lines) _ (All-filter (λ (x : Expiry). x.line < timers.lines) is_running timers.moments (recursion_from_All (λ (x : Expiry). x.line < timers.lines) timers.moments timers.of_lines))))

@@ -11,8 +11,9 @@ use Rattle.lapd_clock.specs.Timer.{Timer}
 use Rattle.lapd_clock.specs.Timers.{Expiry}
 use Rattle.lapd_count.specs.declared.counters.Counters.{Counters}
 use Rattle.lapd_timed.specs.Places.{named_by}
-use Rattle.lapd_timed.specs.Stands.{ChangesStand, TimersStand}
+use Rattle.lapd_timed.specs.Stands.{moment_of, ChangesStandIn, TimersStandIn}
 use Rattle.lapd_timed.specs.declared.timed_card.TimedCard.{TimedCard}
+use Rattle.lapd_timed.proofs.Steps.{moment-is}
 use Rattle.model_card.specs.Card as cards
 use Rattle.model_card.specs.Counted.{all_counted}
 use Rattle.model_timed.specs.Changes.{Marks, marked}
@@ -27,7 +28,7 @@ use Rattle.laws_promises.proofs.TimedRunning.{events-more, led, noted-more, repl
 -- What the proofs ask of a kind: the timers of a card stand for the clock; events lead its machine on one by one; and each is counted
 -- after the others.
 pub record IsDriven {Card Event : Type 0} (d : DrivenKind Card Event) : Type 0 where
-  pub timers : (c : TimedCard) (t : Timed Card) → d.Stand c t → (m : cards.Card) × TimersStand c.timers m t.clock
+  pub timers : (c : TimedCard) (t : Timed Card) → d.Stand c t → (m : cards.Card) × TimersStandIn c.timers m t.clock
   pub led_nothing : (card : Card) → d.leads card [] ≡ card
   pub led_one : (card : Card) (e : Event) (es : List Event) → d.leads card (e ∷ es) ≡ d.leads (d.kind.after e card) es
   pub none_counted : (all : List Counters) (card : Card) → all_counted all (d.counts card []) ≡ all
@@ -45,16 +46,16 @@ pub record Happened {Card Event : Type 0} (d : DrivenKind Card Event) (e : Event
 
 -- The moment of a card is that of its clock.
 abbrev pub IsNow : ℕ → TimedCard → Type 0
-IsNow moment c = (m : cards.Card) (k : Clock) → TimersStand c.timers m k → moment ≡ k.now
+IsNow moment c = (m : cards.Card) (k : Clock) → TimersStandIn c.timers m k → moment ≡ k.now
 
 -- What is noted of the links, if it was so of those of the card, is so after a step; and after one that is not refused.
 abbrev pub IsNoted : {Card Event : Type 0} → DrivenKind Card Event → Step Event → TimedCard → TimedCard → Type 0
-IsNoted d s old new = (t : Timed _) (marks : Marks) → d.Stand old t → ChangesStand old.timers (d.sees t.card) marks
-    → ChangesStand new.timers (d.sees (served d.kind s t).card) (marks_after d.kind d.sees (if_served t.clock.now s) t marks)
+IsNoted d s old new = (t : Timed _) (marks : Marks) → d.Stand old t → ChangesStandIn old.timers (d.sees t.card) marks
+    → ChangesStandIn new.timers (d.sees (served d.kind s t).card) (marks_after d.kind d.sees (if_served t.clock.now s) t marks)
 
 abbrev pub IsMarked : {Card Event : Type 0} → DrivenKind Card Event → Step Event → TimedCard → TimedCard → Type 0
-IsMarked d s old new = (t : Timed _) (marks : Marks) → d.Stand old t → ChangesStand old.timers (d.sees t.card) marks
-    → ChangesStand new.timers (d.sees (after d.kind s t).card) (marked d.sees (after d.kind s t) marks)
+IsMarked d s old new = (t : Timed _) (marks : Marks) → d.Stand old t → ChangesStandIn old.timers (d.sees t.card) marks
+    → ChangesStandIn new.timers (d.sees (after d.kind s t).card) (marked d.sees (after d.kind s t) marks)
 
 -- A step leads a card so, whose moment is this then, and is answered so.
 pub record Led {Card Event : Type 0} (d : DrivenKind Card Event) (s : Step Event) (old new : TimedCard) (moment : ℕ) (reply : Answer) : Type 0 where
@@ -119,10 +120,10 @@ module _ {Card Event : Type 0} (d : DrivenKind Card Event) where
     counted-none : (all new : List Counters) (card : Card) (o : Option Event) → o ≡ None → new ≡ all → new ≡ all_counted all (d.counts card (option_to_list o))
     counted-none all new card o is same = subst (λ x. new ≡ all_counted all (d.counts card (option_to_list x))) (sym is) (same ∙ sym (is_driven.none_counted all card))
 
-    is-due : (old : TimedCard) (t : Timed Card) → d.Stand old t → (o : Option (ℕ × Timer)) → ((m : cards.Card) (c : Clock) → TimersStand old.timers m c → o ≡ option_map named_by (due c)) → o ≡ option_map named_by (due t.clock)
+    is-due : (old : TimedCard) (t : Timed Card) → d.Stand old t → (o : Option (ℕ × Timer)) → ((m : cards.Card) (c : Clock) → TimersStandIn old.timers m c → o ≡ option_map named_by (due c)) → o ≡ option_map named_by (due t.clock)
     is-due old t s o is = is (is_driven.timers old t s).0 t.clock (is_driven.timers old t s).1
 
-    pub led-by-due : (line : ℕ) (timer : Timer) (reply : Answer) (old new : TimedCard) (moment : ℕ) → ((m : cards.Card) (c : Clock) → TimersStand old.timers m c → Some (line, timer) ≡ option_map named_by (due c))
+    pub led-by-due : (line : ℕ) (timer : Timer) (reply : Answer) (old new : TimedCard) (moment : ℕ) → ((m : cards.Card) (c : Clock) → TimersStandIn old.timers m c → Some (line, timer) ≡ option_map named_by (due c))
         → Happened d (d.kind.expiry line timer) reply old new → ((t : Timed Card) → d.Stand old t → d.Stand new (after d.kind falls_due t)) → IsMarked d falls_due old new → IsNow moment new
         → Led d falls_due old new moment (fell_due timer reply)
     unfolding marks_after
@@ -139,7 +140,7 @@ module _ {Card Event : Type 0} (d : DrivenKind Card Event) where
     }
 
     -- and none
-    pub led-by-none-due : (old new : TimedCard) (moment : ℕ) → ((m : cards.Card) (c : Clock) → TimersStand old.timers m c → None ≡ option_map named_by (due c)) → new ≡ old
+    pub led-by-none-due : (old new : TimedCard) (moment : ℕ) → ((m : cards.Card) (c : Clock) → TimersStandIn old.timers m c → None ≡ option_map named_by (due c)) → new ≡ old
         → ((t : Timed Card) → d.Stand old t → d.Stand new (after d.kind falls_due t)) → IsMarked d falls_due old new → IsNow moment new → Led d falls_due old new moment none_due
     unfolding marks_after
     led-by-none-due old new moment is same stands marked now = record {
@@ -154,18 +155,18 @@ module _ {Card Event : Type 0} (d : DrivenKind Card Event) where
     }
 
     -- a moment, and one that is refused
-    wrong-there : (old : TimedCard) (t : Timed Card) → d.Stand old t → (moment : ℕ) → (moment < t.clock.now) ⊎ (2 ^ 63 ≤ moment) → (moment < old.timers.moment) ⊎ (2 ^ 63 ≤ moment)
-    wrong-there old t s moment wrong = subst (λ k. (moment < k) ⊎ (2 ^ 63 ≤ moment)) (is_driven.timers old t s).1.clock_is.now wrong
+    wrong-there : (old : TimedCard) (t : Timed Card) → d.Stand old t → (moment : ℕ) → (moment < t.clock.now) ⊎ (2 ^ 63 ≤ moment) → (moment < moment_of old.timers) ⊎ (2 ^ 63 ≤ moment)
+    wrong-there old t s moment wrong = subst (λ k. (moment < k) ⊎ (2 ^ 63 ≤ moment)) (moment-is old.timers (is_driven.timers old t s).0 t.clock (is_driven.timers old t s).1) wrong
 
     pub led-by-time : (moment : ℕ) (old new : TimedCard) (n : ℕ) → new.card ≡ old.card → ((t : Timed Card) → d.Stand old t → d.Stand new (after d.kind (time moment) t)) → IsMarked d (time moment) old new
-        → ((moment < old.timers.moment) ⊎ (2 ^ 63 ≤ moment) → ⊥) → IsNow n new → Led d (time moment) old new n went
+        → ((moment < moment_of old.timers) ⊎ (2 ^ 63 ≤ moment) → ⊥) → IsNow n new → Led d (time moment) old new n went
     unfolding marks_after
     led-by-time moment old new n same stands marks_are right now = record {
       kind = ap kind_of same;
       config = ap config_of same;
       stands = λ t s. subst (λ b. d.Stand new (cond b t (after d.kind (time moment) t))) (sym (is t s)) (stands t s);
       counted = λ t s. counted-none (counters_of old.card) (counters_of new.card) t.card None refl (ap counters_of same);
-      noted = λ t marks s were. subst (λ b. ChangesStand new.timers (d.sees (cond b t (after d.kind (time moment) t)).card) (marks_after d.kind d.sees (cond b [] (time moment ∷ [])) t marks)) (sym (is t s))
+      noted = λ t marks s were. subst (λ b. ChangesStandIn new.timers (d.sees (cond b t (after d.kind (time moment) t)).card) (marks_after d.kind d.sees (cond b [] (time moment ∷ [])) t marks)) (sym (is t s))
           (marks_are t marks s were);
       now = now;
       answers = λ t s. ap (λ b. cond b wrong_time went) (sym (is t s));
@@ -174,21 +175,21 @@ module _ {Card Event : Type 0} (d : DrivenKind Card Event) where
         is : (t : Timed Card) → d.Stand old t → is_wrong moment t.clock.now ≡ false
         is t s = right-is (2 ^ 63) moment t.clock.now (λ wrong. right (wrong-there old t s moment wrong))
 
-    pub led-by-no-time : (moment : ℕ) (old new : TimedCard) (n : ℕ) → new ≡ old → (moment < old.timers.moment) ⊎ (2 ^ 63 ≤ moment) → IsNow n new → Led d (time moment) old new n wrong_time
+    pub led-by-no-time : (moment : ℕ) (old new : TimedCard) (n : ℕ) → new ≡ old → (moment < moment_of old.timers) ⊎ (2 ^ 63 ≤ moment) → IsNow n new → Led d (time moment) old new n wrong_time
     unfolding marks_after
     led-by-no-time moment old new n same wrong now = record {
       kind = ap (λ (c : TimedCard). kind_of c.card) same;
       config = ap (λ (c : TimedCard). config_of c.card) same;
       stands = λ t s. subst (λ b. d.Stand new (cond b t (after d.kind (time moment) t))) (sym (is t s)) (subst (λ c. d.Stand c t) (sym same) s);
       counted = λ t s. counted-none (counters_of old.card) (counters_of new.card) t.card None refl (ap (λ (c : TimedCard). counters_of c.card) same);
-      noted = λ t marks s were. subst (λ b. ChangesStand new.timers (d.sees (cond b t (after d.kind (time moment) t)).card) (marks_after d.kind d.sees (cond b [] (time moment ∷ [])) t marks)) (sym (is t s))
-          (subst (λ c. ChangesStand c.timers (d.sees t.card) marks) (sym same) were);
+      noted = λ t marks s were. subst (λ b. ChangesStandIn new.timers (d.sees (cond b t (after d.kind (time moment) t)).card) (marks_after d.kind d.sees (cond b [] (time moment ∷ [])) t marks)) (sym (is t s))
+          (subst (λ c. ChangesStandIn c.timers (d.sees t.card) marks) (sym same) were);
       now = now;
       answers = λ t s. ap (λ b. cond b wrong_time went) (sym (is t s));
     }
       where
         is : (t : Timed Card) → d.Stand old t → is_wrong moment t.clock.now ≡ true
-        is t s = wrong-is (2 ^ 63) moment t.clock.now (subst (λ k. (moment < k) ⊎ (2 ^ 63 ≤ moment)) (sym (is_driven.timers old t s).1.clock_is.now) wrong)
+        is t s = wrong-is (2 ^ 63) moment t.clock.now (subst (λ k. (moment < k) ⊎ (2 ^ 63 ≤ moment)) (sym (moment-is old.timers (is_driven.timers old t s).0 t.clock (is_driven.timers old t s).1)) wrong)
 
     -- A step is served, if the sink is handed that reply with that moment.
     module _ {K E : Type 0} {takes misses : K → ℕ → Answer → K → Type 0} {failures : K → ℕ} where
@@ -290,12 +291,12 @@ module _ {Card Event K : Type 0} {takes misses : K → ℕ → Answer → K → 
           ∙ sym (counted-then d is_driven (counters_of old.card) t.card (events_in d.kind steps t) u.card (event_of d.kind s u) (events-led d is_driven t steps))
           ∙ ap (λ es. all_counted (counters_of old.card) (d.counts t.card es)) (sym (events-more d.kind steps s t))
 
-      more-noted : (t : Timed Card) → d.Stand old t → (marks : Marks) → ChangesStand old.timers (d.sees t.card) marks
-          → ChangesStand new.timers (d.sees (served_all d.kind (steps ++ s ∷ []) t).card) (marks_after d.kind d.sees (steps_in d.kind (steps ++ s ∷ []) t) t marks)
+      more-noted : (t : Timed Card) → d.Stand old t → (marks : Marks) → ChangesStandIn old.timers (d.sees t.card) marks
+          → ChangesStandIn new.timers (d.sees (served_all d.kind (steps ++ s ∷ []) t).card) (marks_after d.kind d.sees (steps_in d.kind (steps ++ s ∷ []) t) t marks)
       more-noted t stood marks were =
           let u = served_all d.kind steps t in
-          subst (λ v. ChangesStand new.timers (d.sees (Timed.card v)) (marks_after d.kind d.sees (steps_in d.kind (steps ++ s ∷ []) t) t marks)) (sym (served-more d.kind steps s t))
-          (subst (λ all. ChangesStand new.timers (d.sees (served d.kind s u).card) all) (sym (noted-more d.kind d.sees steps s t marks))
+          subst (λ v. ChangesStandIn new.timers (d.sees (Timed.card v)) (marks_after d.kind d.sees (steps_in d.kind (steps ++ s ∷ []) t) t marks)) (sym (served-more d.kind steps s t))
+          (subst (λ all. ChangesStandIn new.timers (d.sees (served d.kind s u).card) all) (sym (noted-more d.kind d.sees steps s t marks))
           (serves.noted u (marks_after d.kind d.sees (steps_in d.kind steps t) t marks) (so_far.ran t stood) ((so_far.kept t stood).noted marks were)))
 
       more-kept : (t : Timed Card) → d.Stand old t → IsKept d old new t (steps ++ s ∷ [])

@@ -12,7 +12,7 @@ use Rattle.lapd_card.specs.Runs.{Runs}
 use Rattle.lapd_card.specs.Sink.{one_failure_more}
 use Rattle.lapd_card.specs.declared.sink.SinkFault.{SinkFault}
 use Rattle.lapd_clock.specs.Timers.{Expiry}
-use Rattle.lapd_timed.specs.Stands.{ChangesStand}
+use Rattle.lapd_timed.specs.Stands.{ChangesStandIn}
 use Rattle.lapd_timed.specs.declared.timed_card.TimedCard.{TimedCard}
 use Rattle.laws_promises.specs.TimedReply.{Answer, went, wrong_time, none_due, fell_due}
 
@@ -77,8 +77,8 @@ pub record DrivenKind (Card Event : Type 0) : Type 1 where
 -- after the steps that are not refused.
 pub record IsKept {Card Event : Type 0} (d : DrivenKind Card Event) (old new : TimedCard) (t : Timed Card) (steps : List (Step Event)) : Type 0 where
   pub counted : counters_of new.card ≡ all_counted (counters_of old.card) (d.counts t.card (events_in d.kind steps t))
-  pub noted : (marks : Marks) → ChangesStand old.timers (d.sees t.card) marks
-      → ChangesStand new.timers (d.sees (served_all d.kind steps t).card) (marks_after d.kind d.sees (steps_in d.kind steps t) t marks)
+  pub noted : (marks : Marks) → ChangesStandIn old.timers (d.sees t.card) marks
+      → ChangesStandIn new.timers (d.sees (served_all d.kind steps t).card) (marks_after d.kind d.sees (steps_in d.kind steps t) t marks)
 
 -- A list of steps was run at a card. In place of the line of an event, a reply has its moment.
 abbrev pub HasRunAs : {Card Event K : Type 0} → DrivenKind Card Event → (K → ℕ → Answer → K → Type 0) → (K → ℕ → Answer → K → Type 0) → (K → ℕ) → TimedCard → TimedCard
@@ -104,8 +104,8 @@ pub record Serves {Card Event K : Type 0} (d : DrivenKind Card Event) (takes mis
   pub config : config_of new.card ≡ config_of old.card
   pub stands : (t : Timed Card) → d.Stand old t → d.Stand new (served d.kind s t)
   pub counted : (t : Timed Card) → d.Stand old t → counters_of new.card ≡ all_counted (counters_of old.card) (d.counts t.card (option_to_list (event_of d.kind s t)))
-  pub noted : (t : Timed Card) (marks : Marks) → d.Stand old t → ChangesStand old.timers (d.sees t.card) marks
-      → ChangesStand new.timers (d.sees (served d.kind s t).card) (marks_after d.kind d.sees (if_served t.clock.now s) t marks)
+  pub noted : (t : Timed Card) (marks : Marks) → d.Stand old t → ChangesStandIn old.timers (d.sees t.card) marks
+      → ChangesStandIn new.timers (d.sees (served d.kind s t).card) (marks_after d.kind d.sees (if_served t.clock.now s) t marks)
   pub failed : OnErr result (failures later ≡ one_failure_more (failures before))
   pub not_failed : OnOk result (failures later ≡ failures before)
   pub taken : OnOk result ((t : Timed Card) → d.Stand old t → takes before (served d.kind s t).clock.now (answer d.kind d.says s t) later)

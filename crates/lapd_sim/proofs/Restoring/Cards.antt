@@ -59,14 +59,10 @@ module _ (m : Setup) (octets : List ℕ) (card : AnyCard) (waits : List ℕ) (ti
   may : MayBeSaved timers (Some m.clock) t
   may = subst (λ c. MayBeSaved timers c t) clock h.stands.kept
 
-  -- It has its timers,
-  pub has_timers : timers ≡ None → ⊥
-  has_timers none = subst (λ o. MayBeSaved o (Some m.clock) t) none may
-
   standing-is : (line number : ℕ) → standing number (line_at line a) ≡ standing number (line_at line t.card)
   standing-is line number = standing-same line number a t.card is_saved.card h.restored.saved.card cards
 
-  -- and stands for the card of the setup.
+  -- It stands for the card of the setup.
   module _ (old : AnyCard) (kind : m.board.kind ≡ Frames) (on : OnBoard old m.board) (stands : FrameCardStands (frames_of old) a) where
     kind-is : kind_of card ≡ Frames
     kind-is = h.stands.kind ∙ ap (λ b. cond b Octets Frames) (sym restored.kind ∙ ap is_octets kind)
@@ -84,16 +80,13 @@ module _ (m : Setup) (octets : List ℕ) (card : AnyCard) (waits : List ℕ) (ti
     pub counters-are : counters_of card ≡ m.counters
     counters-are = h.stands.counted ∙ sym restored.counted
 
-  -- So do the timers.
-  module _ (new before : CardTimers) (some : timers ≡ Some new) (old : ClockStands before a m.clock m.marks) where
-    its : MayBeSaved (Some new) (Some m.clock) t
-    its = subst (λ o. MayBeSaved o (Some m.clock) t) some may
-
+  -- So do the timers, which it has.
+  module _ (new before : CardTimers) (its : MayBeSaved (Some new) (Some m.clock) t) (old : ClockStands (Some before) a m.clock m.marks) where
     on-is : IsOn t.card ≡ IsOn a
     on-is = λ i line place tei. sym (teis-same a t.card is_saved.card h.restored.saved.card cards place line) i ≡ Some tei
 
-    pub clock-stands : ClockStands new a m.clock m.marks
-    clock-stands = record {
+    stands-again : ClockStands (Some new) a m.clock m.marks
+    stands-again = record {
       timed = record {
         reached = old.timed.reached;
         clock_is = record {
@@ -134,6 +127,14 @@ module _ (m : Setup) (octets : List ℕ) (card : AnyCard) (waits : List ℕ) (ti
             let moment-is = ap (λ rows. get_or (get_or rows line []) number 0) (sym restored.changed) ∙ moments-at a.config m.marks line number in_lines in_links in
             λ i. record { state = state-is i; moment = moment-is i }
 
+  pub clock-stands : (before : Option CardTimers) → ClockStands before a m.clock m.marks → ClockStands timers a m.clock m.marks
+  clock-stands None old = absurd old.timed
+  clock-stands (Some before) old = go timers may
+    where
+      go : (o : Option CardTimers) → MayBeSaved o (Some m.clock) t → ClockStands o a m.clock m.marks
+      go None its = absurd its
+      go (Some new) its = stands-again new before its old
+
 -- ---- what a card and its timers stand for, as it is saved
 
 none-wait : (lines links : ℕ) → lines ≤ 64 → map number_of (replicate lines (replicate links false)) ≡ take lines (replicate 64 0)
@@ -152,9 +153,10 @@ kind-in : (k : CardKind) → k ≡ (cond (is_octets k) Octets Frames)
 kind-in Octets = refl
 kind-in Frames = refl
 
-pub stands-for : (m : Setup) (card : AnyCard) (timers : CardTimers) → OnBoard card m.board → FrameCardStands (frames_of card) m.board.card.card → counters_of card ≡ m.counters
-    → ClockStands timers m.board.card.card m.clock m.marks → m.board.card.card.config.lines ≤ 64 → StandsFor card (replicate 64 0) (Some timers) (saved m)
-stands-for m card timers on lines counters h few =
+pub stands-for : (m : Setup) (card : AnyCard) (timers : Option CardTimers) → OnBoard card m.board → FrameCardStands (frames_of card) m.board.card.card → counters_of card ≡ m.counters
+    → ClockStands timers m.board.card.card m.clock m.marks → m.board.card.card.config.lines ≤ 64 → StandsFor card (replicate 64 0) timers (saved m)
+stands-for m card None on lines counters h few = absurd h.timed
+stands-for m card (Some timers) on lines counters h few =
     let c = m.board.card.card.config in
     record {
       kind = sym on.kind ∙ kind-in m.board.kind;

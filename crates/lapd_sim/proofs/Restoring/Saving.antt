@@ -1,5 +1,5 @@
 -- What is saved of a setup is its image, and may be saved.
-use Rattle.std.proofs.Common.{arith, ◌≡◌, ℕ, zero, suc, ◌<◌, ◌≤◌, List, [], ◌∷◌, length, get_or, replicate, take, true, false, Some, sym, ap, ◌∙◌, subst}
+use Rattle.std.proofs.Common.{arith, ◌≡◌, ℕ, zero, suc, ◌<◌, ◌≤◌, List, [], ◌∷◌, length, get_or, replicate, take, true, false, sym, ap, ◌∙◌, subst}
 use Rattle.std.specs.List.{AllZip}
 use Rattle.std.proofs.lemmas.List.{length-replicate}
 use Rattle.lapd_image.specs.Puts.{Puts}
@@ -48,7 +48,7 @@ module _ (s : rust.Setup) (m : Setup) (h : SetupStands s m) where
   few : m.board.card.card.config.lines ≤ 64
   few = omega (arith, ap (λ (c : Config). c.lines) config-is, (ranges_of s.config s.in_range).lines.most)
 
-  stands : StandsFor s.timed.card (replicate 64 0) (Some s.timed.timers) (saved m)
+  stands : StandsFor s.timed.card (replicate 64 0) s.timed.timers (saved m)
   stands = stands-for m s.timed.card s.timed.timers h.board (inside s.timed.card m.board h.board) h.counters h.timers few
 
   marks : AreAllMarks (saved m)
@@ -56,10 +56,10 @@ module _ (s : rust.Setup) (m : Setup) (h : SetupStands s m) where
       (reached-sound m.board.card.card (inside s.timed.card m.board h.board).reached).count
 
   pub is-image : (waits old new : List ℕ) (end : ℕ) → waits ≡ replicate 64 0 → most_octets s.config true < length old
-      → ((t : Saved) → StandsFor s.timed.card waits (Some s.timed.timers) t → Puts (image_of t) 0 old end new)
-      → ((t : Saved) → StandsFor s.timed.card waits (Some s.timed.timers) t → AreAllMarks t → IsSaved t) → IsImageOf m (take end new)
+      → ((t : Saved) → StandsFor s.timed.card waits s.timed.timers t → Puts (image_of t) 0 old end new)
+      → ((t : Saved) → StandsFor s.timed.card waits s.timed.timers t → AreAllMarks t → IsSaved t) → IsImageOf m (take end new)
   is-image waits old new end none room puts may =
-      let its = subst (λ ws. StandsFor s.timed.card ws (Some s.timed.timers) (saved m)) (sym none) stands in
+      let its = subst (λ ws. StandsFor s.timed.card ws s.timed.timers (saved m)) (sym none) stands in
       let sound = may (saved m) its marks in
       let most : most_octets m.board.card.card.config true ≡ most_octets s.config true = ap (λ c. most_octets c true) config-is in
       let whole = puts-whole (omega (arith, images_fit (saved m) sound, most, room)) (puts (saved m) its) in

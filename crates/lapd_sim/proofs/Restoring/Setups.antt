@@ -1,5 +1,5 @@
 -- A setup whose card is restored from its own image stands for what it stood for.
-use Rattle.std.proofs.Common.{◌≡◌, ℕ, ◌^◌, ◌<◌, length, List, Option, Some, None, Ok, refl, sym, ap, ◌∙◌, subst}
+use Rattle.std.proofs.Common.{◌≡◌, ℕ, ◌^◌, ◌<◌, length, List, Option, Ok, refl, sym, ap, ◌∙◌, subst}
 use Rattle.lapd_card.specs.Kinds.{config_of, counters_of, kind_of}
 use Rattle.lapd_card.specs.declared.kinds.AnyCard.{AnyCard}
 use Rattle.lapd_timed.specs.Image.{IsRestoredFrom}
@@ -12,7 +12,7 @@ use Rattle.model_card.specs.declared.kinds.CardKind.TheVariants.{Frames, Octets}
 use Rattle.model_image.specs.Images.{Saved, image_of}
 use Rattle.model_image.specs.Sound.{IsSaved}
 use Rattle.lapd_sim.proofs.Boards.{inside}
-use Rattle.lapd_sim.proofs.Restoring.Cards.{clock-stands, counters-are, has_timers, on-board}
+use Rattle.lapd_sim.proofs.Restoring.Cards.{clock-stands, counters-are, on-board}
 use Rattle.lapd_sim.proofs.Vocabulary.{Each, Hears, OnBoard, Sends, SetupStands, scene}
 use Rattle.lapd_sim.specs.Obeyed.{IsImageOf}
 use Rattle.lapd_sim.specs.Stands.{ClockStands}
@@ -33,9 +33,6 @@ not-refused m octets h refused = refused (saved m) h.is_saved (image-is m octets
 
 module _ (s : rust.Setup) (octets : List ℕ) (card : AnyCard) (waits : List ℕ) (timers : Option CardTimers) (m : Setup) (h : SetupStands s m) (kind : kind_of s.timed.card ≡ Frames)
     (image_is : IsImageOf m octets) (from : IsRestoredFrom octets card waits timers) where
-  pub some-timers : timers ≡ None → ⊥
-  some-timers = has_timers m octets card waits timers image_is.is_saved (image-is m octets image_is.octets_are) from
-
   on-it : OnBoard card m.board
   on-it =
       on-board m octets card waits timers image_is.is_saved (image-is m octets image_is.octets_are) from
@@ -44,15 +41,15 @@ module _ (s : rust.Setup) (octets : List ℕ) (card : AnyCard) (waits : List ℕ
   pub same-config : config_of card ≡ s.config
   same-config = sym on-it.config ∙ h.config
 
-  pub stands-anew : (new : rust.Setup) (now : CardTimers) → timers ≡ Some now → new.config ≡ s.config → new.timed.card ≡ card → new.timed.timers ≡ now
+  pub stands-anew : (new : rust.Setup) → new.config ≡ s.config → new.timed.card ≡ card → new.timed.timers ≡ timers
       → new.terminals ≡ s.terminals → new.listeners ≡ s.listeners → new.losses ≡ s.losses → SetupStands new m
-  stands-anew new now some config card_is timers_are terminals listeners losses = record {
+  stands-anew new config card_is timers_are terminals listeners losses = record {
     config = h.config ∙ sym config;
     board = subst (λ k. OnBoard k m.board) (sym card_is) on-it;
     counters = ap counters_of card_is ∙ counters-are m octets card waits timers image_is.is_saved (image-is m octets image_is.octets_are) from
         s.timed.card (h.board.kind ∙ kind) h.board (inside s.timed.card m.board h.board);
     timers = subst (λ t. ClockStands t m.board.card.card m.clock m.marks) (sym timers_are)
-        (clock-stands m octets card waits timers image_is.is_saved (image-is m octets image_is.octets_are) from now s.timed.timers some h.timers);
+        (clock-stands m octets card waits timers image_is.is_saved (image-is m octets image_is.octets_are) from s.timed.timers h.timers);
     terminals = subst (λ ts. Each Sends ts.items m.terminals) (sym terminals) h.terminals;
     listeners = subst (λ ls. Each Hears ls.items m.taken) (sym listeners) h.listeners;
     losses = h.losses ∙ sym losses;

@@ -1,7 +1,8 @@
 //! An image is read part by part: of which kind the card is; the card; which links wait; and the timers, if it keeps its own.
 
 ghost use Rattle.std.specs.List.{AllZip};
-ghost use Rattle.std.specs.Prelude.{◌≡◌, ◌↔◌, ℕ, ◌<◌, Bool, true, List, ◌++◌, flat_map, IfErr, IfOk, IfSome, IsSome, OnErr};
+ghost use Rattle.std.specs.Prelude.{◌≡◌, ◌↔◌, ℕ, ◌<◌, Bool, true, List, ◌++◌, flat_map, IfErr, IfOk, IsSome, OnErr};
+ghost use Rattle.lapd_timed.specs.Stands.{AreOfLines};
 ghost use Rattle.lapd_card.specs.FrameCard.{line_count as frame_line_count};
 ghost use Rattle.lapd_card.specs.FrameStands.{FrameStands};
 ghost use Rattle.lapd_image.specs.Reads.{HasNone};
@@ -85,7 +86,7 @@ pub(super) fn restore_timers<S: Shelf>(
 ) -> Result<Option<CardTimers>, ImageFault>
     requires { (m : Card) × FrameStands S.store card.now m }
     ensures read { IfOk result (λ timers. (m : Card) → FrameStands S.store card.now m → AreTimersRead m timed timers reader.old reader.new) }
-    ensures lines { IfOk result (λ timers. IfSome timers (λ its. its.lines ≡ frame_line_count card.now)) }
+    ensures lines { IfOk result (λ timers. AreOfLines (frame_line_count card.now) timers) }
     ensures none { IfErr result (λ fault. fault ≡ faults.BadImage → (m : Card) → FrameStands S.store card.now m → HaveNoTimers m timed reader.old) }
 {
     if timed {

@@ -8,5 +8,4 @@ use Rattle.lapd_c.proofs.exchange.make_step.Goals as goal
 pub returns-clause-step : goal.returns-clause-step
 returns-clause-step c =
     let is : at c.args.line port.pull ≡ step_event c.args.line c.args.taken.now c.args.step = grind arith in
-    subst (λ (e : Event). IsStep e c.args.card.now c.tells_given.new.card c.args.timers.now c.args.timers.now c.tells_given.result c.args.report.now c.tells_given.new.report) is
-    (c.tells_given.ensures.step c.args.timers.now)
+    subst (λ (e : Event). IsStep e c.args.timed.now c.tells_given.new.timed c.tells_given.result c.args.report.now c.tells_given.new.report) is c.tells_given.ensures.step

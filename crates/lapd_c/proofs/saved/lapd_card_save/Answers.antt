@@ -15,7 +15,7 @@ pub returns : goal.returns
 returns c =
     let kept = c.in-Some.value.now in
     let is = c.in-Some.ensures.card in
-    let timed : is_timed c.args.handle.now ≡ is_some kept.timers = ap (λ held. is_some (timers_held held)) is in
+    let timed : is_timed c.args.handle.now ≡ is_some kept.timed.timers = ap (λ held. is_some (timers_held held)) is in
     record {
       question = record {
         handle = c.requires ∙ ap is_some is;
@@ -31,7 +31,7 @@ returns c =
       saved = λ s holds room.
           let held : IsHeldAs kept s = subst (λ held. HandleHolds held s) is holds in
           let may = c.save.ensures.saved s held in
-          let most : most_octets s.card.config (is_timed c.args.handle.now) ≡ most_octets s.card.config (is_some kept.timers) = ap (most_octets s.card.config) timed in
+          let most : most_octets s.card.config (is_timed c.args.handle.now) ≡ most_octets s.card.config (is_some kept.timed.timers) = ap (most_octets s.card.config) timed in
           let fits : length (image_of s) ≤ length c.args.image.now = omega (arith, room, most, held_fits kept s may held) in
           (may, written (image_of s) c.args.image.now c.save.new.out c.save.result (c.save.ensures.puts s held) fits);
     }

@@ -1,5 +1,5 @@
 -- Hand-written answers for `lapd_card_set_lengths`: the lengths are those that the caller gave.
-use Rattle.lapd_c.proofs.Vocabulary.{subst, refl, Some}
+use Rattle.lapd_c.proofs.Vocabulary.{refl, subst}
 use Rattle.model_timed.specs.Clock.{with_lengths}
 use Rattle.lapd_c.specs.Kept.{TimersStandIn}
 use Rattle.lapd_c.proofs.Served.{timers_there}
@@ -7,5 +7,4 @@ use Rattle.lapd_c.proofs.timed.lapd_card_set_lengths.Goals as goal
 
 pub returns-clause-set : goal.returns-clause-set
 returns-clause-set c = λ none m clock stood.
-    let t = subst (λ timers. TimersStandIn timers m clock) c.in-Some-timers.is (timers_there c.in-Some.ensures.card m clock stood) in
-    (refl, subst (λ lengths. TimersStandIn (Some c.set_lengths.new.self) m (with_lengths lengths clock)) (c.in-Ok.ensures.read none) (c.set_lengths.ensures.after m clock t))
+    (refl, subst (λ lengths. TimersStandIn c.set_lengths.new.self.timers m (with_lengths lengths clock)) (c.in-Ok.ensures.read none) (c.set_lengths.ensures.after m clock (timers_there c.in-Some.ensures.card m clock stood)))

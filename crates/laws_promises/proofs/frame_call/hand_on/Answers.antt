@@ -1,5 +1,5 @@
 -- Hand-written answers for `hand_on`.
-use Rattle.laws_promises.proofs.Vocabulary.{◌<◌, refl, ap, arith, Card, FrameStands}
+use Rattle.laws_promises.proofs.Vocabulary.{◌<◌, ap, arith, Card, FrameStands}
 use Rattle.std.specs.Prelude.{Result, OnOk, OnErr}
 use Rattle.lapd_card.specs.FrameCard.{Held, room_for_frames}
 use Rattle.model_line.proofs.Ranges.{ranges_of}

@@ -1,5 +1,5 @@
 -- The next frame is given, or none waits; and there is room for the longest frame of all.
-use Rattle.std.proofs.Common.{◌<◌, refl, sym, ap}
+use Rattle.std.proofs.Common.{◌<◌, sym, ap}
 use Rattle.lapd_line.specs.Reports.{gave_in}
 use Rattle.lapd_timed.specs.Kinds.{room_of}
 use Rattle.model_card.specs.Event.{at}

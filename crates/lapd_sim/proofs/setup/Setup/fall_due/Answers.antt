@@ -2,7 +2,7 @@
 use Rattle.lapd_sim.proofs.Vocabulary.{◌≡◌, Some, None, refl, sym, subst, arith, option_map, SetupStands}
 use Rattle.std.specs.Prelude.{max}
 use Rattle.lapd_timed.specs.Places.{named_by}
-use Rattle.lapd_timed.specs.Stands.{TimersStand}
+use Rattle.lapd_timed.specs.Stands.{TimersStandIn}
 use Rattle.lapd_timed.specs.declared.timed_card.TimedCard.{TimedCard}
 use Rattle.model_timed.specs.Clock.{at_moment, due}
 use Rattle.lapd_sim.proofs.Boards.{as_before}
@@ -24,13 +24,13 @@ returns-then-moment-end-clause-none c = λ m h. (
 pub go_to-requires-clause-end : goal.go_to-requires-clause-end
 go_to-requires-clause-end c =
     let m = c.requires.stands in
-    let timers = subst (λ (t : TimedCard). TimersStand t.timers m.0.board.card.card m.0.clock) (sym c.next_moment.ensures.unchanged) m.1.timers.timed in
-    omega (arith, c.requires.end, c.if-moment-end.false, c.now-now.ensures m.0.board.card.card m.0.clock timers, m.1.timers.timed.clock_is.now, c.args.self.now.timed.timers.in_time)
+    let timers = subst (λ (t : TimedCard). TimersStandIn t.timers m.0.board.card.card m.0.clock) (sym c.next_moment.ensures.unchanged) m.1.timers.timed in
+    omega (arith, c.requires.end, c.if-moment-end.false, c.now-now.ensures m.0.board.card.card m.0.clock timers, m.2)
 
 pub go_to-requires-clause-stands : goal.go_to-requires-clause-stands
 go_to-requires-clause-stands c =
     let m = c.requires.stands in
-    let timers = subst (λ (t : TimedCard). TimersStand t.timers m.0.board.card.card m.0.clock) (sym c.next_moment.ensures.unchanged) m.1.timers.timed in (
+    let timers = subst (λ (t : TimedCard). TimersStandIn t.timers m.0.board.card.card m.0.clock) (sym c.next_moment.ensures.unchanged) m.1.timers.timed in (
       m.0,
       as_before c.args.self.now _ refl c.next_moment.ensures.unchanged refl refl refl m.0 m.1,
       omega (arith, c.now-now.ensures m.0.board.card.card m.0.clock timers),
@@ -39,7 +39,7 @@ go_to-requires-clause-stands c =
 pub returns-in_err-line-clause-none : goal.returns-in_err-line-clause-none
 returns-in_err-line-clause-none c = none_if c.from_residual-in_err-line.result c.from_residual-in_err-line.ensures (λ m h.
     let moment = c.in_ok-moment.moment in
-    let timers = subst (λ (t : TimedCard). TimersStand t.timers m.board.card.card m.clock) (sym c.next_moment.ensures.unchanged) h.timers.timed in
+    let timers = subst (λ (t : TimedCard). TimersStandIn t.timers m.board.card.card m.clock) (sym c.next_moment.ensures.unchanged) h.timers.timed in
     let now : c.now-now.result ≡ m.clock.now = c.now-now.ensures m.board.card.card m.clock timers in
     let max_is : c.max.result ≡ max m.clock.now moment = omega (arith, now) in
     let stands = c.go_to.ensures.after m (as_before c.args.self.now _ refl c.next_moment.ensures.unchanged refl refl refl m h) in
@@ -50,7 +50,7 @@ pub returns-clause-due : goal.returns-clause-due
 returns-clause-due c = λ m h.
     let moment = c.in_ok-moment.moment in
     let timer = c.in_ok-line.field-0-1 in
-    let timers = subst (λ (t : TimedCard). TimersStand t.timers m.board.card.card m.clock) (sym c.next_moment.ensures.unchanged) h.timers.timed in
+    let timers = subst (λ (t : TimedCard). TimersStandIn t.timers m.board.card.card m.clock) (sym c.next_moment.ensures.unchanged) h.timers.timed in
     let now : c.now-now.result ≡ m.clock.now = c.now-now.ensures m.board.card.card m.clock timers in
     let max_is : c.max.result ≡ max m.clock.now moment = omega (arith, now) in
     let stands = c.go_to.ensures.after m (as_before c.args.self.now _ refl c.next_moment.ensures.unchanged refl refl refl m h) in

@@ -1,6 +1,7 @@
 -- Hand-written answers for `Setup::go_to`.
 use Rattle.lapd_sim.proofs.Vocabulary.{◌≡◌, ◌∙◌, false≢true, sym, subst, arith, inr, OnBoard, counters_of}
 use Rattle.std.proofs.Common.{inl}
+use Rattle.lapd_timed.proofs.Steps.{moment-is}
 use Rattle.lapd_sim.proofs.Boards.{timed_time}
 use Rattle.lapd_sim.proofs.Scenes.{if_ok}
 use Rattle.lapd_sim.proofs.setup.Setup.go_to.Goals as goal
@@ -9,7 +10,7 @@ pub unreachable-requires : goal.unreachable-requires
 unreachable-requires c =
     let m = c.requires.stands in
     elim (c.go_to.ensures.refused.0 (sym c.if-is_err.ensures.value)) [
-      | inl early ↦ omega (arith, early, m.1.timers.timed.clock_is.now, m.2)
+      | inl early ↦ omega (arith, early, moment-is _ m.0.board.card.card m.0.clock m.1.timers.timed, m.2)
       | inr late ↦ omega (arith, late, c.requires.end)
     ]
 

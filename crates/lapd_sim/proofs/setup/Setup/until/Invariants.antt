@@ -15,4 +15,4 @@ invariant-loop-line g l = record {
 
 -- each expiry lowers the time that is left
 abbrev pub decreases-loop-line : goal.decreases-loop-line
-decreases-loop-line g l = time_left l.end l.self.timed.timers.moments
+decreases-loop-line g l = time_left l.end l.self.timed.timers

@@ -1,12 +1,13 @@
 -- Hand-written answers for `Setup::wait`.
 use Rattle.lapd_sim.proofs.Vocabulary.{◌≡◌, ◌+◌, refl, subst, arith, le-leb, after_wait, last_moment, on, scene, until, Tells, SetupStands}
 use Rattle.lapd_sim.proofs.Scenes.{is_over, obeyed}
+use Rattle.lapd_sim.proofs.Waits.{in_time}
 use Rattle.lapd_sim.proofs.setup.Setup.wait.Goals as goal
 
 pub overflow_add-end : goal.overflow_add-end
 overflow_add-end g c =
     let m = c.requires.stands in
-    omega (arith, c.now.ensures m.0.board.card.card m.0.clock m.1.timers.timed, m.1.timers.timed.clock_is.now, c.args.self.now.timed.timers.in_time, c.from.ensures)
+    omega (arith, c.now.ensures m.0.board.card.card m.0.clock m.1.timers.timed, in_time c.args.self.now m.0 m.1, c.from.ensures)
 
 pub until-requires-clause-stands : goal.until-requires-clause-stands
 until-requires-clause-stands g c =

@@ -3,7 +3,7 @@ use Rattle.std.proofs.Common.{◌∙◌, sym, ap, subst}
 use Rattle.lapd_frame.specs.ShortLists.{listed}
 use Rattle.model_card.specs.Machine.{after}
 use Rattle.model_timed.specs.Clock.{obeyed}
-use Rattle.lapd_timed.specs.Stands.{AreLeft, TimersStand}
+use Rattle.lapd_timed.specs.Stands.{TimersStand}
 use Rattle.lapd_timed.proofs.card_timers.CardTimers.obey_list.Goals as goal
 
 pub returns-then-restart_alone-clause-after : goal.returns-then-restart_alone-clause-after

@@ -6,15 +6,12 @@ use Rattle.model_line.specs.Came.{cause_of}
 use Rattle.model_line.specs.Event.{hears}
 use Rattle.model_card.specs.Card.{line_at}
 use Rattle.lapd_timed.proofs.EventKeeps.{dropped-keeps}
-use Rattle.lapd_timed.proofs.Steps.{frames-called, frames-unmarked}
+use Rattle.lapd_timed.proofs.Steps.{frames-called-still}
 use Rattle.lapd_timed.proofs.timed_card.TimedCard.failed.Goals as goal
 
 pub returns : goal.returns
 returns c = record {
-  called = frames-called c.args.line (at c.args.line (hears (stream.dropped (cause_of c.args.fault)))) refl tt c.args.self.now c.carry_out.new.self c.in-Frames.card c.failed.new.self c.in-Frames.is c.carry_out.ensures.card c.failed.ensures.called
-      c.requires.within c.orders.result.now c.carry_out.ensures.carried c.orders.ensures
-      (frames-unmarked c.args.line (at c.args.line (hears (stream.dropped (cause_of c.args.fault)))) refl tt c.args.self.now c.carry_out.new.self c.in-Frames.card c.failed.new.self c.in-Frames.is c.carry_out.ensures.card c.failed.ensures.called
-      c.requires.within c.orders.result.now c.carry_out.ensures.carried c.orders.ensures
-      (record { lines = c.carry_out.ensures.carried.lines; terminals = c.carry_out.ensures.carried.terminals; changes = c.carry_out.ensures.changes })
-      (λ m reached here number. dropped-keeps (cause_of c.args.fault) m.config (line_at c.args.line m) number));
+  called = frames-called-still c.args.line (at c.args.line (hears (stream.dropped (cause_of c.args.fault)))) refl tt c.args.self.now c.carry_out.new.self c.in-Frames.card c.failed.new.self c.in-Frames.is c.carry_out.ensures.card c.failed.ensures.called
+      c.requires.within c.orders.result.now c.carry_out.ensures.carried c.orders.ensures c.carry_out.ensures.still
+      (λ m reached here number. dropped-keeps (cause_of c.args.fault) m.config (line_at c.args.line m) number);
 }

@@ -9,8 +9,8 @@ use Rattle.model_line.specs.Event.{hears, told}
 use Rattle.model_line.specs.declared.config.Config.{Config}
 use Rattle.lapd_timed.specs.Carried.{AreNoted}
 use Rattle.lapd_timed.proofs.EventKeeps.{frame-keeps}
-use Rattle.lapd_timed.proofs.MarkedSteps.{carried-too}
-use Rattle.lapd_timed.proofs.Steps.{frames-called, frames-marked}
+use Rattle.lapd_timed.proofs.Events.{carried-too}
+use Rattle.lapd_timed.proofs.Steps.{frames-called-noted}
 use Rattle.lapd_timed.proofs.timed_card.TimedCard.frame.Goals as goal
 
 pub returns-clause-called : goal.returns-clause-called
@@ -18,12 +18,7 @@ returns-clause-called c =
     let same : c.in-Frames.card.config ≡ config_of c.args.self.now.card = sym (ap config_of c.in-Frames.is) in
     let called = subst (λ (d : Config). Called shelf_of (at c.args.line (hears (came d.n201 c.args.octets.now))) (told (told_in (octets_of (Some (came d.n201 c.args.octets.now))) c.frame-is_quiet.new.report)) c.in-Frames.card c.frame-is_quiet.new.self) same
     c.frame-is_quiet.ensures.called in
-    let what = hears (came (config_of c.args.self.now.card).n201 c.args.octets.now) in
-    let carried = carried-too c.frame-is_quiet.new.self c.args.line c.orders.result.now c.args.self.now.timers c.carry_out.new.self.timers c.note.new.self.timers c.note.ensures.noted.held c.carry_out.ensures.carried in
-    let noted = subst (λ k. AreNoted (frames_of k) c.args.line c.tei_of_frame.result c.carry_out.new.self.timers c.note.new.self.timers) c.carry_out.ensures.card c.note.ensures.noted in
-    frames-called c.args.line (at c.args.line what) refl tt c.args.self.now c.note.new.self c.in-Frames.card c.frame-is_quiet.new.self c.in-Frames.is (c.note.ensures.card ∙ c.carry_out.ensures.card) called
-    c.requires.within c.orders.result.now carried c.orders.ensures
-    (frames-marked c.args.line (at c.args.line what) refl tt c.args.self.now c.note.new.self c.in-Frames.card c.frame-is_quiet.new.self c.in-Frames.is (c.note.ensures.card ∙ c.carry_out.ensures.card) called
-    c.requires.within c.orders.result.now carried c.orders.ensures c.carry_out.new.self.timers
-    (record { lines = c.carry_out.ensures.carried.lines; terminals = c.carry_out.ensures.carried.terminals; changes = c.carry_out.ensures.changes }) c.tei_of_frame.result
-    (frame-keeps (config_of c.args.self.now.card).n201 c.args.octets.now c.tei_of_frame.result c.tei_of_frame.ensures) noted)
+    let noted = subst (λ k. AreNoted (frames_of k) c.args.line c.tei_of_frame.result c.carry_out_list.new.self.timers c.note.new.self.timers) c.carry_out_list.ensures.card c.note.ensures.noted in
+    frames-called-noted c.args.line (at c.args.line (hears (came (config_of c.args.self.now.card).n201 c.args.octets.now))) refl tt c.args.self.now c.note.new.self c.in-Frames.card c.frame-is_quiet.new.self c.in-Frames.is
+    (c.note.ensures.card ∙ c.carry_out_list.ensures.card) called c.requires.within _ (carried-too _ _ _ _ _ _ _ _ c.carry_out_list.ensures.carried noted) refl
+    c.carry_out_list.new.self.timers c.carry_out_list.ensures.still c.tei_of_frame.result (frame-keeps (config_of c.args.self.now.card).n201 c.args.octets.now c.tei_of_frame.result c.tei_of_frame.ensures) noted

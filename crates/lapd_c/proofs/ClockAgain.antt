@@ -9,7 +9,6 @@ use Rattle.lapd_clock.specs.Places.{in_order, on_line}
 use Rattle.lapd_clock.specs.Restoring.{IsTimer}
 use Rattle.lapd_clock.specs.Timer.{tei_rank, AreInRange, Lengths}
 use Rattle.lapd_clock.specs.Timers.{Expiry, Timers}
-use Rattle.lapd_clock.specs.declared.held.Held.{Held}
 use Rattle.lapd_clock.proofs.ImageRead.{lengths-split, list-of-timers}
 use Rattle.lapd_clock.proofs.Once.{All-from_in_order}
 use Rattle.lapd_image.specs.Numbers.{list_of, number}
@@ -24,19 +23,19 @@ both : (P : Expiry → Type 0) (xs ys : List Expiry) → AllByRecursion P (xs ++
 both P [] ys all = (tt, all)
 both P (x ∷ xs) ys all = let rest = both P xs ys all.1 in ((all.0, rest.0), rest.1)
 
-of_line : (line : ℕ) (hs : List Held) → AllByRecursion MayBe (on_line line hs) → AllByRecursion IsTimer hs
+of_line : (line : ℕ) (hs : List _) → AllByRecursion MayBe (on_line line hs) → AllByRecursion IsTimer hs
 unfolding on_line
 of_line line [] all = tt
 of_line line (h ∷ hs) all = (record { tei = all.0.0; moment = all.0.1 }, of_line line hs all.1)
 
-of_lines : (line : ℕ) (lists : List (List Held)) → AllByRecursion MayBe (from_lists line lists) → AllByRecursion (All IsTimer) lists
+of_lines : (line : ℕ) (lists : List (List _)) → AllByRecursion MayBe (from_lists line lists) → AllByRecursion (All IsTimer) lists
 unfolding from_lists
 of_lines line [] all = tt
 of_lines line (hs ∷ more) all =
     let parts = both MayBe (on_line line hs) (from_lists (line + 1) more) all in
     (All-from_recursion IsTimer hs (of_line line hs parts.0), of_lines (line + 1) more parts.1)
 
-timers : (c : Timers) (lists : List (List Held)) → IsSaved c → AreItsTimers c lists → All (All IsTimer) lists
+timers : (c : Timers) (lists : List (List _)) → IsSaved c → AreItsTimers c lists → All (All IsTimer) lists
 timers c lists saved its =
     let all = recursion_from_All MayBe c.running (λ i d within. (saved.teis i d within, saved.moments i d within)) in
     All-from_recursion (All IsTimer) lists (of_lines 0 lists (All-from_in_order MayBe (from_lists 0 lists) (subst (AllByRecursion MayBe) (sym its.running) all)))
@@ -56,7 +55,7 @@ same_lengths l k r s range also e =
 
 -- ---- the whole
 
-pub same_clock : (c d : Timers) (lists others : List (List Held)) → IsSaved c → IsSaved d → AreItsTimers c lists → AreItsTimers d others
+pub same_clock : (c d : Timers) (lists others : List (List _)) → IsSaved c → IsSaved d → AreItsTimers c lists → AreItsTimers d others
     → image c lists ≡ image d others → c ≡ d
 same_clock c d lists others saved also its own e =
     let from = tails (tails (tails (tails (tails (tails e))))) in
@@ -67,5 +66,5 @@ same_clock c d lists others saved also its own e =
     let lists_are = equal-read (All IsTimer) (list_of timer) list-of-timers lists others [] []
     (its.each ∙ count ∙ sym own.each) (timers c lists saved its) (timers d others also own)
     (append-nil (flat_map (list_of timer) lists) ∙ long.1 ∙ sym (append-nil (flat_map (list_of timer) others))) in
-    let running : c.running ≡ d.running = sym its.running ∙ ap (λ (ls : List (List Held)). in_order (from_lists 0 ls)) lists_are.0 ∙ own.running in
+    let running : c.running ≡ d.running = sym its.running ∙ ap (λ (ls : List (List _)). in_order (from_lists 0 ls)) lists_are.0 ∙ own.running in
     λ i. record { lines = count i; places = places i; lengths = long.0 i; running = running i }

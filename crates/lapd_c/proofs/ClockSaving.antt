@@ -7,7 +7,6 @@ use Rattle.lapd_clock.specs.Image.{from_lists, image, lengths, most_octets, time
 use Rattle.lapd_clock.specs.Places.{expiry_on, on_line}
 use Rattle.lapd_clock.specs.Timer.{Lengths}
 use Rattle.lapd_clock.specs.Timers.{count_on, Expiry, Timers}
-use Rattle.lapd_clock.specs.declared.held.Held.{Held}
 use Rattle.lapd_clock.proofs.Ordered.{count_by-cons}
 use Rattle.lapd_clock.proofs.StandsFor.{count_by-in_order}
 use Rattle.lapd_image.specs.Numbers.{list_of, number}
@@ -25,12 +24,12 @@ four l =
     let c = length-append (number 4 l.t201) (number 4 l.t202) in
     omega (arith, a, b, c, length-number 4 l.t200, length-number 4 l.t203, length-number 4 l.t201, length-number 4 l.t202)
 
-each_timer : (hs : List Held) → length (flat_map timer hs) ≡ 11 * length hs
+each_timer : (hs : List _) → length (flat_map timer hs) ≡ 11 * length hs
 each_timer [] = refl
 each_timer (h ∷ hs) = omega (arith, length-append (timer h) (flat_map timer hs), length-number 8 h.moment, each_timer hs)
 
 -- of a line's timers all count for it
-all_count : (line : ℕ) (hs : List Held) → count_on line (on_line line hs) ≡ length hs
+all_count : (line : ℕ) (hs : List _) → count_on line (on_line line hs) ≡ length hs
 unfolding on_line
 all_count line [] = refl
 all_count line (h ∷ hs) =
@@ -39,7 +38,7 @@ all_count line (h ∷ hs) =
     ∙ ap (λ b. cond b 1 0 + count_on line (on_line line hs)) own
     ∙ omega (arith, all_count line hs)
 
-each_line : (places line : ℕ) (lists : List (List Held)) → ((k : ℕ) → count_on k (from_lists line lists) ≤ places)
+each_line : (places line : ℕ) (lists : List (List _)) → ((k : ℕ) → count_on k (from_lists line lists) ≤ places)
     → length (flat_map (list_of timer) lists) ≤ length lists * (1 + 11 * places)
 unfolding from_lists
 each_line places line [] few = omega arith
@@ -49,7 +48,7 @@ each_line places line (hs ∷ more) few =
     let rest = each_line places (line + 1) more (λ k. omega (arith, few k, parts k)) in
     omega (arith, length-append (list_of timer hs) (flat_map (list_of timer) more), each_timer hs, own, rest)
 
-image_fits : (c : Timers) (lists : List (List Held)) → IsSaved c → AreItsTimers c lists → length (image c lists) ≤ most_octets c
+image_fits : (c : Timers) (lists : List (List _)) → IsSaved c → AreItsTimers c lists → length (image c lists) ≤ most_octets c
 image_fits c lists saved its =
     let count = λ (k : ℕ). sym (count_by-in_order (λ (e : Expiry). e.line == k) (from_lists 0 lists)) ∙ ap (count_on k) its.running in
     let all = each_line c.places 0 lists (λ k. omega (arith, count k, saved.sound.in_places k)) in
@@ -57,7 +56,7 @@ image_fits c lists saved its =
     omega (arith, length-append (lengths c.lengths) (flat_map (list_of timer) lists), four c.lengths, all, lines)
 
 -- So all of it stands in front of a room with so many.
-pub clock_written : (c : Timers) (lists : List (List Held)) (old new : List ℕ) (end : ℕ) → IsSaved c → AreItsTimers c lists → most_octets c ≤ length old
+pub clock_written : (c : Timers) (lists : List (List _)) (old new : List ℕ) (end : ℕ) → IsSaved c → AreItsTimers c lists → most_octets c ≤ length old
     → Puts (image c lists) 0 old end new → IsSavedAs c old (new, end)
 clock_written c lists old new end saved its room puts =
     let is = written (image c lists) old new end puts (omega (arith, image_fits c lists saved its, room)) in

@@ -2,7 +2,6 @@
 use Rattle.std.specs.Prelude.{◌≡◌, ◌≢◌, ◌≤◌, ◌⊎◌, ℕ, List, length, None, Some, IfSome}
 use Rattle.lapd_clock.specs.Image.{image, most_octets, AreItsTimers, IsNoImage, IsRead, IsSaved}
 use Rattle.lapd_clock.specs.Timers.{Timers}
-use Rattle.lapd_clock.specs.declared.held.Held.{Held}
 use Rattle.lapd_c.specs.declared.clock.ClockHandle.{ClockHandle}
 use Rattle.lapd_c.specs.Slots.{HeldClock}
 use Rattle.lapd_c.specs.Clocks.{clock_of, IsClockCall, IsHandle}
@@ -11,7 +10,7 @@ use Rattle.lapd_c.specs.Statuses as status
 
 -- Its image stands in front: the timers of a line there in whichever order.
 abbrev pub IsSavedAs : Timers → List ℕ → List ℕ × ℕ → Type 0
-IsSavedAs c room after = (lines : List (List Held)) × AreItsTimers c lines × StandsInFront (image c lines) room after
+IsSavedAs c room after = (lines : List (List _)) × AreItsTimers c lines × StandsInFront (image c lines) room after
 
 -- A save changes nothing of the clock. If there is room for all that an image of it may have, the image is written.
 pub record IsClockSave (old new : ClockHandle) (result : ℕ) (before after : List ℕ × ℕ) : Type 0 where

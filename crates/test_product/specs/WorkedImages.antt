@@ -4,7 +4,6 @@ use Rattle.lapd_clock.specs.Image as clocks
 use Rattle.lapd_clock.specs.Places.{in_order}
 use Rattle.lapd_clock.specs.Timer.{T200, T203, T201, T202, Call, Packet}
 use Rattle.lapd_clock.specs.Timers.{Timers}
-use Rattle.lapd_clock.specs.declared.held.Held.{Held}
 use Rattle.lapd_count.specs.Counters.{most, none_counted, with_all}
 use Rattle.lapd_count.specs.Image.{counters}
 use Rattle.lapd_count.specs.declared.counter.Counter.TheVariants.{Frames, Octets, Lost, Messages}
@@ -69,21 +68,21 @@ counted_image = refl
 
 -- A caller's clock for two lines of one terminal each: on the first T203 of the packet link of TEI 65 runs, and T201; on the
 -- second T200 of the call control link of TEI 126, and T202.
-abbrev held : List (List Held)
-held =
-    (record { moment = 10500; timer = T203 Packet 65 } ∷ record { moment = 4294967297; timer = T201 } ∷ [])
-    ∷ (record { moment = 7; timer = T200 Call 126 } ∷ record { moment = 0; timer = T202 } ∷ [])
-    ∷ []
-
 abbrev ticking : Timers
 ticking = record {
   lines = 2;
   places = 5;
   lengths = record { t200 = 1000; t203 = 10000; t201 = 1500; t202 = 3600000 };
-  running = in_order (clocks.from_lists 0 held);
+  running = in_order (clocks.from_lists 0 (
+      (record { moment = 10500; timer = T203 Packet 65 } ∷ record { moment = 4294967297; timer = T201 } ∷ [])
+      ∷ (record { moment = 7; timer = T200 Call 126 } ∷ record { moment = 0; timer = T202 } ∷ [])
+      ∷ []));
 }
 
-ticking_image : clocks.image ticking held
+ticking_image : clocks.image ticking (
+    (record { moment = 10500; timer = T203 Packet 65 } ∷ record { moment = 4294967297; timer = T201 } ∷ [])
+    ∷ (record { moment = 7; timer = T200 Call 126 } ∷ record { moment = 0; timer = T202 } ∷ [])
+    ∷ [])
     ≡ 76 ∷ 65 ∷ 80 ∷ 68 ∷ 1 ∷ 4 ∷ 2 ∷ 1
     ∷ 0xE8 ∷ 0x03 ∷ 0 ∷ 0 ∷ 0x10 ∷ 0x27 ∷ 0 ∷ 0 ∷ 0xDC ∷ 0x05 ∷ 0 ∷ 0 ∷ 0x80 ∷ 0xEE ∷ 0x36 ∷ 0
     ∷ 2 ∷ 1 ∷ 65 ∷ 1 ∷ 0x04 ∷ 0x29 ∷ 0 ∷ 0 ∷ 0 ∷ 0 ∷ 0 ∷ 0 ∷ 2 ∷ 0 ∷ 0 ∷ 1 ∷ 0 ∷ 0 ∷ 0 ∷ 1 ∷ 0 ∷ 0 ∷ 0

@@ -214,7 +214,7 @@ typedef struct lapd_config {
     uint16_t lines;      /* lines: 1 to 64 */
     uint16_t terminals;  /* TEIs on each line at most: 1 to 8 */
     uint16_t k;          /* the window of call control links: 1 to 127 (clause 5.9.5) */
-    uint16_t k16;        /* the window of packet links: 1 to 127 */
+    uint16_t k16;        /* the window of links of the second service: 1 to 127 */
     uint16_t queue;      /* contents that wait on each link, sent or unsent: the greater of k and k16, to 127 */
     uint16_t unit_queue; /* unit data that wait on each line: 1 to 16 */
     uint16_t control;    /* control frames that wait on each link: 2 to 16 */

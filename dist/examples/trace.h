@@ -26,7 +26,7 @@
 enum { TRACE_PLACES = 254 };
 
 /* A log, with the states of links that it told last, and how many frames were heard until then; begins as zeros but for where it
- * goes, the side of the card, and the SAPI of packet links, if it is another than 16. */
+ * goes, the side of the card, and the SAPI of the second service, if it is another than 16. */
 typedef struct {
     FILE *to;
     uint16_t side, sapi;

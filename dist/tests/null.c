@@ -5,7 +5,8 @@
 #include "check.h"
 #include "lapd.h"
 
-static const lapd_config config = {2, 2, 1, 1, 2, 8, 2, 8, 8, 1, LAPD_NETWORK, 0, 0, LAPD_PROFILE};
+static const lapd_config config = {.lines = 2, .terminals = 2, .k = 1, .k16 = 1, .queue = 2, .unit_queue = 8, .control = 2, .slots = 8,
+                                   .n201 = 8, .n200 = 1};
 
 /* What calls write to; after a wrong call each octet is as it was. */
 static struct {

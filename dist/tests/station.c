@@ -70,22 +70,14 @@ static uint32_t start_card(station *b, const lapd_config *config) {
 }
 
 static fault start(station *b, const command *c) {
-    const uint32_t *n = c->numbers;
-    lapd_config config = {.lines = (uint16_t)n[0], .terminals = (uint16_t)n[1], .k = (uint16_t)n[2],
-                          .k16 = (uint16_t)n[9], .queue = (uint16_t)n[3], .unit_queue = (uint16_t)n[4],
-                          .control = (uint16_t)n[5], .slots = (uint16_t)n[6], .n201 = (uint16_t)n[7],
-                          .n200 = (uint16_t)n[8], .side = c->terminal ? LAPD_TERMINAL : c->user ? LAPD_USER : LAPD_NETWORK,
-                          .seed = (uint16_t)(c->terminal ? c->seed : 0),
-                          .sapi = (uint16_t)(c->sapi != 0 ? c->sapi : UINT16_MAX), /* 0 would mean 16 */
-                          .reading = c->annex_b ? LAPD_ANNEX_B : LAPD_PROFILE};
     b->for_frames = c->for_frames;
-    uint32_t status = start_card(b, &config);
+    uint32_t status = start_card(b, &c->config);
     if (status >= LAPD_BAD_LINES)
         return BAD_CARD;
     if (status == LAPD_NO_MEMORY)
         return NO_MEMORY;
     want_ok(status, "start");
-    for (uint32_t line = 0; line < n[0]; line++) {
+    for (uint32_t line = 0; line < c->config.lines; line++) {
         hdlc_begin(&b->senders[line]);
         hdlc_listen(&b->listeners[line]);
     }

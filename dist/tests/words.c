@@ -120,32 +120,56 @@ static size_t user_among(const word *words, size_t count) {
     return (count == 11 || count == 12) && is_word(words[count - 2], "user") ? count - 2 : count;
 }
 
-/* Nine numbers, or ten; the tenth is the window of packet links, which else is that of call control. The word user may stand
- * after them, of a terminal with its seed, and then sapi with a number. Last may stand annex-b. */
-static fault read_card(const word *words, size_t count, bool for_frames, command *read) {
-    read->verb = CARD;
-    read->for_frames = for_frames;
-    read->annex_b = count >= 1 && count < MOST_WORDS && is_word(words[count - 1], "annex-b");
-    count -= read->annex_b;
+static bool read_field(word w, uint16_t *field) {
+    uint32_t number;
+    bool is = read_number(w, 0, ANY, &number);
+    *field = (uint16_t)number;
+    return is;
+}
+
+/* Nine numbers of a configuration, or ten; the tenth is the window of the second service, else that of call control. */
+static fault read_numbers(const word *words, size_t count, lapd_config *read) {
+    uint16_t *const fields[] = {&read->lines, &read->terminals, &read->k, &read->queue, &read->unit_queue,
+                                &read->control, &read->slots, &read->n201, &read->n200, &read->k16};
+    for (size_t i = 0; i < count; i++)
+        if (!read_field(words[i], fields[i]))
+            return BAD_NUMBER;
+    if (count == 9)
+        read->k16 = read->k;
+    return NO_FAULT;
+}
+
+/* These numbers. The word user may stand after them, of a terminal with its seed, and then sapi with a number. Last may stand
+ * annex-b. */
+static fault read_config(const word *words, size_t count, lapd_config *read) {
+    bool annex_b = count >= 1 && count < MOST_WORDS && is_word(words[count - 1], "annex-b");
+    count -= annex_b;
     bool has_sapi = count >= 2 && count < MOST_WORDS && is_word(words[count - 2], "sapi");
     count -= has_sapi ? 2 : 0;
     const word *sapi = &words[count + 1];
     size_t user = user_among(words, count);
     const word *seed = &words[user + 1];
-    read->user = user < count;
-    read->terminal = user + 2 == count;
-    count = user;
-    if ((count != 9 && count != 10) || (count == 10 && read->terminal && is_word(*seed, "user")))
+    bool terminal = user + 2 == count;
+    read->side = terminal ? LAPD_TERMINAL : user < count ? LAPD_USER : LAPD_NETWORK;
+    read->reading = annex_b ? LAPD_ANNEX_B : LAPD_PROFILE;
+    if ((user != 9 && user != 10) || (user == 10 && terminal && is_word(*seed, "user")))
         return BAD_NUMBER_OF_WORDS;
-    for (size_t i = 0; i < count; i++)
-        if (!read_number(words[i], 0, ANY, &read->numbers[i]))
-            return BAD_NUMBER;
-    if (count == 9)
-        read->numbers[9] = read->numbers[2];
-    if (read->terminal && !read_number(*seed, 0, ANY, &read->seed))
-        return BAD_NUMBER;
-    read->sapi = LAPD_PACKET;
-    return has_sapi && !read_number(*sapi, 0, ANY, &read->sapi) ? BAD_NUMBER : NO_FAULT;
+    fault found = read_numbers(words, user, read);
+    if (found == NO_FAULT && terminal && !read_field(*seed, &read->seed))
+        found = BAD_NUMBER;
+    if (found == NO_FAULT && has_sapi && !read_field(*sapi, &read->sapi))
+        found = BAD_NUMBER;
+    if (has_sapi && read->sapi == 0)
+        read->sapi = UINT16_MAX;
+    return found;
+}
+
+static fault read_card(const word *words, size_t count, bool for_frames, command *read) {
+    static const lapd_config none;
+    read->verb = CARD;
+    read->for_frames = for_frames;
+    read->config = none;
+    return read_config(words, count, &read->config);
 }
 
 /* T200, T203 and T201, each of them a millisecond to an hour; and T202, which is two seconds if it is left out. */

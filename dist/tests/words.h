@@ -6,6 +6,8 @@
 #include <stddef.h>
 #include <stdint.h>
 
+#include "lapd.h"
+
 #ifdef __cplusplus
 extern "C" {
 #endif
@@ -41,12 +43,8 @@ typedef struct {
     uint8_t request, service; /* of a REQUEST */
     uint8_t cause;            /* of FAILED, as in a report */
     bool for_frames;          /* of a CARD */
-    bool user;                /* of a CARD: it is the user's side of its lines */
-    bool terminal;            /* of a CARD: it is a terminal, whose seed follows */
-    uint32_t seed;
-    uint32_t sapi;            /* of a CARD: the SAPI of the second service */
-    bool annex_b;             /* of a CARD: the tables are read by annex B */
-    uint32_t numbers[10];     /* of a card its ten; else the line, then what follows it */
+    lapd_config config;       /* of a CARD; SAPI 0 of the line is 65535 in it, since 0 means 16 there */
+    uint32_t numbers[4];      /* of others: the line, then what follows it; of TIMERS the lengths */
     uint8_t octets[MOST_LINE / 2];
     size_t length;
 } command;

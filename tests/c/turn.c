@@ -58,7 +58,7 @@ int main(void) {
     for (size_t length; next_line(line, &length);) {
         bool is_read = length > 0 && length <= MOST_LINE && read_command(line, length, &c) == NO_FAULT;
         if (is_read && c.verb == CARD && !c.for_frames)
-            begin(c.numbers[0]);
+            begin(c.config.lines);
         if (is_read && turned(&c))
             continue;
         for (size_t i = 0; i < length; i++)

@@ -15,10 +15,10 @@
 //! # Open
 //!
 //! That each command and each answer finds a place in its queue of control frames (these laws suppose that none is told
-//! as lost). That all is told in the end once noise has ended, and how soon: in the runs of `tests/clocks --after-noise
-//! 18000` all is told, or told as given up, and at 16 kbit/s with T200 of 362 ms one message takes 0.69 s at most, eight
-//! take 2.35 s. (Layer 3 asks for no unit data and is not busy, T203 is T200 at least, and noise makes no frame.) That
-//! N200 lasts longer than `a_call_outlasts_noise` says.
+//! as lost). That all is told in the end once noise has ended, and how soon. So far runs alone tell: in those of
+//! `tests/clocks --after-noise 18000` all is told, or told as given up. It takes 0.69 s at most for one message, and
+//! 2.35 s for eight, at 16 kbit/s with T200 of 362 ms. (Layer 3 asks for no unit data and is not busy, T203 is T200 at
+//! least, and noise makes no frame.) That N200 lasts longer than `a_call_outlasts_noise` says.
 
 ghost use Rattle.laws_time.specs.circuit.AfterNoise.{FramesComeAfterNoise, NoiseMakesNoFrameAfter};
 ghost use Rattle.laws_time.specs.circuit.Answered.{AnEnquiryIsAnswered, CommandsAreAnswered, NoNoiseIsClear, OneEnquiryIsEnough};

@@ -51,8 +51,9 @@ DROPS = [
 ]
 IN_RATTLE = "Card::octet"
 COMES = [
-    Call("lapd_octet", "lapd_c/src/octets.rt", [
+    Call("lapd_octet, show_ended", "lapd_c/src/octets.rt", [
         back("fills the caller's struct", "show"), back("lends what was delivered", "contents")]),
+    Call("TimedCard::hear", "lapd_timed/src/timed_card.rt", [back("own timers get their orders", "carry_out")], "lapd_octet"),
     Call("Card::hear", "lapd_card/src/card.rt", [
         Note(f"in Rattle {IN_RATTLE} calls it"), back("begun here, filled below", "BareReport")]),
     Call("Port::octet", "lapd_line/src/port.rt", [Note("does the octet end anything?")]),

@@ -886,8 +886,8 @@ LAPD_INLINE uint64_t lapd_card_octets_timed(const lapd_config *config) {
 /* The same of a clock. */
 LAPD_INLINE uint64_t lapd_clock_octets(const lapd_config *config) {
     uint64_t lines = config->lines, places = 4u * config->terminals + 1u;
-    return lapd_block_octets(96) + lapd_block_octets(32 * lines) + lapd_block_octets(16 * lines)
-           + lines * lapd_block_octets(24 * places);
+    return lapd_block_octets(128) + lapd_block_octets(8 * lines) + lapd_block_octets(24 * lines)
+           + lapd_block_octets(24 * places * lines);
 }
 
 /* An octet with its bits turned round: bit 1 becomes bit 8. For an octet that has the bit that came first as bit 8. */

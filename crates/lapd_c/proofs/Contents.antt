@@ -7,7 +7,7 @@ use Rattle.model_link.specs.Machine as links
 use Rattle.model_teis.specs.network.Events as teis
 use Rattle.model_teis.specs.declared.changes.Change.TheVariants.{Gained, Left}
 use Rattle.model_teis.specs.terminal.Events as terminals
-use Rattle.model_line.specs.Effect.{at_a_terminal, of_network, of_terminal, of_terminal_if, told_of_terminal}
+use Rattle.model_line.specs.Effect.{at_a_terminal, of_network, of_terminal, of_terminal_if}
 use Rattle.model_line.specs.Event.{Event, LineTold}
 use Rattle.model_line.specs.Line.{is_terminal, terminal_in, with_terminal}
 use Rattle.model_line.specs.Machine.{aim_of, answer}
@@ -96,7 +96,7 @@ module _ (c : Config) where
   terminal-small : (e : terminals.Event) (l : Line) → IsSmall c.n201 (of_terminal c e l).told.contents
   terminal-small e l =
       let t = terminals.told e (terminal_in l) in
-      change-small t.change (told_of_terminal t) (with_terminal (terminals.after e (terminal_in l)) l) (omega arith)
+      change-small t.change (told_of_management t) (with_terminal (terminals.after e (terminal_in l)) l) (omega arith)
 
   terminal_if-small : (o : Option terminals.Event) (l : Line) → IsSmall c.n201 (of_terminal_if c o l).told.contents
   terminal_if-small None l = omega arith

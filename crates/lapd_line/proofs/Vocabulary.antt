@@ -111,7 +111,7 @@ pub use Rattle.model_line.proofs.Sides.{unit_tei}
 pub use Rattle.model_line.proofs.Starts.{expiry_starts}
 pub use Rattle.model_line.specs.Counted.{answer_shown, counted, shown}
 pub use Rattle.model_line.specs.Counts.{may_send}
-pub use Rattle.model_line.specs.Effect.{Aim, at_a_terminal, at_link, at_management, at_no_link, at_none, at_terminal, at_units, of_aim, of_change, of_management, of_network, of_terminal, of_terminal_if, told_of_link, told_of_management, told_of_terminal, unserved_cause, with_cleared, with_opened, without_units}
+pub use Rattle.model_line.specs.Effect.{Aim, at_a_terminal, at_link, at_management, at_no_link, at_none, at_terminal, at_units, of_aim, of_change, of_management, of_network, of_terminal, of_terminal_if, told_of_link, told_of_management, unserved_cause, with_cleared, with_opened, without_units}
 pub use Rattle.model_line.specs.Event.{Answer, Event, LineTold, NextFrame, dropped, expiry, gave, given_in, hears, next, nothing, told}
 pub use Rattle.model_line.specs.Expiry.{aim_of_expiry, at_timer}
 pub use Rattle.model_line.specs.Laws.{orders_in}

@@ -1,5 +1,5 @@
 -- TEI management of a line, of either kind: what it stands for of the machine's.
-use Rattle.std.specs.Prelude.{◌≡◌, ℕ, ◌+◌, Bool, true, false, List, [], slice_get, Option, Some, None, option_map}
+use Rattle.std.specs.Prelude.{◌≡◌, ℕ, Bool, true, false, List, [], slice_get, Option, None, option_map}
 use Rattle.lapd_frame.specs.declared.addresses.Side.{Side}
 use Rattle.model_teis.specs.network.Events as teis
 use Rattle.model_teis.specs.network.Machine as tei
@@ -10,7 +10,7 @@ use Rattle.model_teis.specs.terminal.Events as terminals
 use Rattle.model_teis.specs.terminal.Machine as terminal
 use Rattle.model_teis.specs.terminal.Messages as own_messages
 use Rattle.model_line.specs.declared.config.Config.{Config}
-use Rattle.model_line.specs.Line.{Line, Own, fresh_line, is_terminal}
+use Rattle.model_line.specs.Line.{Own, fresh_line, is_terminal}
 use Rattle.lapd_line.specs.declared.managing.Managing.{Managing}
 use Rattle.lapd_line.specs.declared.managing.Managing.TheVariants as kind
 

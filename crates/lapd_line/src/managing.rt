@@ -5,21 +5,19 @@ ghost use Rattle.lapd_frame.specs.declared.addresses.Side.{Side as Spelt};
 ghost use Rattle.lapd_line.specs.Managing.{places_of, is_terminals, own_of, offered_by, first_type, held_by, IsBegunBy, Gives};
 ghost use Rattle.lapd_line.specs.Requests.{asked_aim, is_bad, refusal_at};
 ghost use Rattle.lapd_line.specs.TeiChanges.{IsAnswerTo, Answers};
-ghost use Rattle.lapd_tei.specs.Outcome.{IsShort, told_of};
+ghost use Rattle.lapd_tei.specs.Outcome.{IsShort};
 ghost use Rattle.model_teis.specs.Table.{place_of};
 ghost use Rattle.model_teis.specs.network.Events as teis;
 ghost use Rattle.model_teis.specs.terminal.Events as terminals;
-ghost use Rattle.lapd_tei.specs.terminal.Outcome.{told_of as terminal_told_of};
-ghost use Rattle.model_line.specs.Effect.{at_management, at_terminal, note_of, order_of, told_of_management, told_of_terminal};
-ghost use Rattle.model_line.specs.Event as line_event;
+ghost use Rattle.model_line.specs.Effect.{at_management, at_terminal};
 ghost use Rattle.model_line.specs.Sound.{IsInRange};
 
 mod saved;
 
 use crate::fault::StartFault;
 use crate::requests::TeiRequest;
-use lapd_frame::{Note, Order, Refusal, ShortList, Side, Timer};
-use lapd_tei::{News, T202Order, TeiOutcome, Teis, TerminalOutcome, TerminalTeis};
+use lapd_frame::{Refusal, Side};
+use lapd_tei::{TeiOutcome, Teis, TerminalTeis};
 use model_line::Config;
 use std::alloc::Global;
 
@@ -29,65 +27,6 @@ use std::alloc::Global;
 pub(crate) enum Managing {
     Network(Teis),
     Terminal(TerminalTeis),
-}
-
-/// What management is told of a terminal's TEIs.
-fn note_of(news: News) -> Note
-    ensures { result ≡ note_of news }
-{
-    match news {
-        News::Assigned(tei) => Note::Assigned(tei),
-        News::Removed(tei) => Note::Removed(tei),
-        News::Denied => Note::Denied,
-        News::Unassigned => Note::Unassigned,
-        News::RemoveAll => Note::RemoveAll,
-    }
-}
-
-/// What is ordered of T202.
-fn order_of(order: T202Order) -> Order
-    ensures { result ≡ order_of order }
-{
-    match order {
-        T202Order::Start => Order::Start(Timer::T202),
-        T202Order::Stop => Order::Stop(Timer::T202),
-    }
-}
-
-/// What a terminal tells, as the network's side tells it.
-pub(crate) fn outcome_of(told: TerminalOutcome) -> TeiOutcome
-    ensures change { result.change ≡ told.change }
-    ensures told { told_of_management (told_of result) ≡ told_of_terminal (terminal_told_of told) }
-    ensures short { IsShort result }
-{
-    TeiOutcome {
-        notes: match told.news {
-            Some(news) => ShortList::one(note_of(news)),
-            None => ShortList::none(),
-        },
-        change: told.change,
-        orders: match told.order {
-            Some(order) => ShortList::one(order_of(order)),
-            None => ShortList::none(),
-        },
-        lost: 0,
-        unserved: told.unserved,
-    }
-}
-
-/// Nothing happened.
-fn nothing() -> TeiOutcome
-    ensures change { result.change ≡ None }
-    ensures told { told_of_management (told_of result) ≡ line_event.nothing }
-    ensures short { IsShort result }
-{
-    TeiOutcome {
-        notes: ShortList::none(),
-        change: None,
-        orders: ShortList::none(),
-        lost: 0,
-        unserved: false,
-    }
 }
 
 impl Managing {
@@ -112,7 +51,7 @@ impl Managing {
     {
         match self {
             Managing::Network(own) => own.message(information),
-            Managing::Terminal(own) => outcome_of(own.message(information)),
+            Managing::Terminal(own) => own.message(information),
         }
     }
 
@@ -123,7 +62,7 @@ impl Managing {
     {
         match self {
             Managing::Network(own) => own.expire_t201(),
-            Managing::Terminal(_) => nothing(),
+            Managing::Terminal(_) => TeiOutcome::nothing(),
         }
     }
 
@@ -133,8 +72,8 @@ impl Managing {
         ensures short { IsShort result }
     {
         match self {
-            Managing::Network(_) => nothing(),
-            Managing::Terminal(own) => outcome_of(own.expire_t202()),
+            Managing::Network(_) => TeiOutcome::nothing(),
+            Managing::Terminal(own) => own.expire_t202(),
         }
     }
 
@@ -152,8 +91,20 @@ impl Managing {
         ensures short { IfOk result IsShort }
     {
         match self {
-            Managing::Network(own) => asked.put(tei, own),
-            Managing::Terminal(own) => asked.put_to_terminal(tei, own),
+            Managing::Network(own) => match asked {
+                TeiRequest::Assign => own.assign(tei),
+                TeiRequest::Remove => own.remove(tei),
+                TeiRequest::Check => own.check(tei),
+                TeiRequest::Disown => own.disown(tei),
+                TeiRequest::Ask | TeiRequest::Verify => Err(Refusal::WrongSide),
+            },
+            Managing::Terminal(own) => match asked {
+                TeiRequest::Assign => own.assign(tei),
+                TeiRequest::Remove => own.remove(tei),
+                TeiRequest::Check | TeiRequest::Disown => Err(Refusal::WrongSide),
+                TeiRequest::Ask => own.ask(),
+                TeiRequest::Verify => own.verify(tei),
+            },
         }
     }
 
@@ -164,7 +115,7 @@ impl Managing {
     {
         match self {
             Managing::Network(own) => own.give_up(),
-            Managing::Terminal(own) => outcome_of(own.give_up()),
+            Managing::Terminal(own) => own.give_up(),
         }
     }
 

@@ -1,20 +1,17 @@
 //! What layer 3 and management ask for.
 
-ghost use Rattle.std.specs.Prelude.{◌≡◌, ◌≤◌, ◌==◌, ◌||◌, ℕ, false, List, [], length, Some, None, IfOk, IfErr, OnOk, OnErr, nat_le};
-ghost use Rattle.lapd_line.specs.{Service, Owned, Store, used_slots, Answers, IsShort, is_on, places_of, Line, at_units, refusal, request_of, aim_of_request, at_deactivated, at_requested, last_unit_tei, asked_aim, is_bad, link_refusal, network_refusal, request_asked, terminal_refusal, may_ask, Standing, Serves, always, IsClear};
+ghost use Rattle.std.specs.Prelude.{◌≡◌, ◌≤◌, ◌==◌, ◌||◌, ℕ, false, List, [], length, Some, None, IfErr, OnOk, OnErr, nat_le};
+ghost use Rattle.lapd_line.specs.{Service, Owned, Store, used_slots, is_on, places_of, Line, at_units, refusal, request_of, aim_of_request, at_deactivated, at_requested, last_unit_tei, asked_aim, is_bad, link_refusal, request_asked, may_ask, Standing, Serves, always, IsClear};
 ghost use Rattle.lapd_line.specs.Requests.{request_for};
-ghost use Rattle.lapd_line.specs.declared.managing.Managing.TheVariants as kind;
 ghost use Rattle.model_line.specs.Line as machine;
 ghost use Rattle.model_line.specs.Request as asked;
 
 use crate::addressing::is_network;
 use crate::link_layer::{LinkLayer, link_number};
-use crate::managing::outcome_of;
 use crate::units::QueuedUnit;
 use lapd_frame::{GROUP, LAST_TEI, Refusal, Service, Side};
 use lapd_link::{BareReport, LinkRequest};
 use lapd_store::Shelf;
-use lapd_tei::{TeiOutcome, Teis, TerminalTeis};
 use model_line::{Config, Request};
 
 /// What is asked of TEI management about a TEI.
@@ -99,43 +96,6 @@ impl TeiRequest {
             TeiRequest::Disown => tei > GROUP,
             TeiRequest::Ask => false,
         }
-    }
-
-    /// Asks it of the network's side.
-    pub fn put(self, tei: u8, own: &mut Teis) -> Result<TeiOutcome, Refusal>
-        requires { is_bad self tei ≡ false }
-        ensures answers { IfOk result (Answers (asked_aim self tei) (kind.Network own.old) (kind.Network own.new)) }
-        ensures accepted { OnOk result (network_refusal self tei own.old ≡ None) }
-        ensures refused { IfErr result (λ why. network_refusal self tei own.old ≡ Some why) }
-        ensures unchanged { OnErr result (own.new ≡ own.old) }
-        ensures short { IfOk result IsShort }
-    {
-        match self {
-            TeiRequest::Assign => own.assign(tei),
-            TeiRequest::Remove => own.remove(tei),
-            TeiRequest::Check => own.check(tei),
-            TeiRequest::Disown => own.disown(tei),
-            TeiRequest::Ask | TeiRequest::Verify => Err(Refusal::WrongSide),
-        }
-    }
-
-    /// Asks it of a terminal.
-    pub fn put_to_terminal(self, tei: u8, own: &mut TerminalTeis) -> Result<TeiOutcome, Refusal>
-        requires { is_bad self tei ≡ false }
-        ensures answers { IfOk result (Answers (asked_aim self tei) (kind.Terminal own.old) (kind.Terminal own.new)) }
-        ensures accepted { OnOk result (terminal_refusal self tei own.old ≡ None) }
-        ensures refused { IfErr result (λ why. terminal_refusal self tei own.old ≡ Some why) }
-        ensures unchanged { OnErr result (own.new ≡ own.old) }
-        ensures short { IfOk result IsShort }
-    {
-        let told = match self {
-            TeiRequest::Assign => own.assign(tei)?,
-            TeiRequest::Remove => own.remove(tei)?,
-            TeiRequest::Check | TeiRequest::Disown => return Err(Refusal::WrongSide),
-            TeiRequest::Ask => own.ask()?,
-            TeiRequest::Verify => own.verify(tei)?,
-        };
-        Ok(outcome_of(told))
     }
 }
 

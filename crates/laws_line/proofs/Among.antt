@@ -2,7 +2,7 @@
 use Rattle.laws_line.proofs.Vocabulary.{◌≡◌, ℕ, ◌+◌, ◌-◌, ◌<◌, ◌≤◌, Bool, false, cond, List, [], ◌∷◌, ◌++◌, Option, Some, sym, ap, ◌∙◌, ◌⊎◌, inl, inr, arith, append_assoc, append-nil, eq-eqb, Service, Parts, ControlFrame, State, Terms, Link, event-follows, as_heard, is_overlong, waiting_left, Change, Config, LineTold, Answer, Aim, of_change, of_aim, Line, link_count}
 use Rattle.laws_line.proofs.Vocabulary.{service_at, place_at, tei_at, terms, link_at, IsInRange, Event, after, answer, IsSound, deactivates, IsBy, frames_before, is_take, priority_waiting, link_overlong, link_offer, link_received, link_frame, link_cleared, LinkEvent, link_after}
 use Rattle.laws_line.proofs.Happening.{Happens, event-happens}
-use Rattle.laws_line.proofs.Vocabulary.{None, refl, true, at_management, at_terminal, at_no_link, at_a_terminal, of_management, of_network, of_terminal, of_terminal_if, told_of_management, told_of_terminal, is_terminal, terminal_in, with_terminal, without_units, TeiEvent, TerminalEvent, tei_told, tei_after, terminal_told, terminal_after, down as line_down}
+use Rattle.laws_line.proofs.Vocabulary.{None, refl, true, at_management, at_terminal, at_no_link, at_a_terminal, of_management, of_network, of_terminal, of_terminal_if, told_of_management, is_terminal, terminal_in, with_terminal, without_units, TeiEvent, TerminalEvent, tei_told, tei_after, terminal_told, terminal_after, down as line_down}
 
 -- An event that is no call for the next frame leaves whose turn it is.
 abbrev Meanwhile : Line → Line → Type 0
@@ -12,7 +12,7 @@ by-change : (c : Config) (o : Option Change) (t : LineTold) (l : Line) → (of_c
 by-change c o t l = grind arith
 
 there : (c : Config) (e : TerminalEvent) (l : Line) → Meanwhile l (of_terminal c e l).line
-there c e l = by-change c (terminal_told e (terminal_in l)).change (told_of_terminal (terminal_told e (terminal_in l))) (with_terminal (terminal_after e (terminal_in l)) l)
+there c e l = by-change c (terminal_told e (terminal_in l)).change (told_of_management (terminal_told e (terminal_in l))) (with_terminal (terminal_after e (terminal_in l)) l)
 
 there-if : (c : Config) (o : Option TerminalEvent) (l : Line) → Meanwhile l (of_terminal_if c o l).line
 there-if c None l = refl

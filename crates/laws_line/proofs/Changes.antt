@@ -1,12 +1,11 @@
 -- What every step of TEI management is, of whatever side, with what it notes.
-use Rattle.laws_line.proofs.Vocabulary.{◌≡◌, ℕ, Bool, true, false, cond, List, [], ◌∷◌, Option, Some, None, IfSome, refl, sym, subst, ap, ◌∙◌, arith, option_map, option_to_list, Note, Moves, Change, Management, IsSoundTable, Config, Line, LineTold, Own, Effect, nothing, is_terminal, terminal_in, of_change, of_management, of_network, of_terminal, of_terminal_if, at_a_terminal, note_of}
-use Rattle.laws_line.proofs.Vocabulary.{told_of_management, told_of_terminal, IsSound, IsOfSide, IsUnused}
-use Rattle.laws_line.proofs.Vocabulary.{TeiEvent, tei_told, tei_after, Terminal, TerminalEvent, terminal_told, terminal_after, TerminalNews, IsOwnEvent}
-use Rattle.laws_line.proofs.Vocabulary.{is_some, Order, Follows, order_of, t201_follows}
+use Rattle.laws_line.proofs.Vocabulary.{◌≡◌, ℕ, Bool, true, false, cond, List, [], ◌∷◌, Option, Some, None, IfSome, refl, sym, subst, ap, ◌∙◌, arith, Note, Moves, Change, Management, IsSoundTable, Config, Line, LineTold, Own, Effect, nothing, is_terminal, terminal_in, of_change, of_management, of_network, of_terminal, of_terminal_if, at_a_terminal}
+use Rattle.laws_line.proofs.Vocabulary.{told_of_management, IsSound, IsOfSide, IsUnused}
+use Rattle.laws_line.proofs.Vocabulary.{TeiEvent, tei_told, tei_after, Terminal, TerminalEvent, terminal_told, terminal_after, IsOwnEvent}
+use Rattle.laws_line.proofs.Vocabulary.{is_some, Order, Follows, t201_follows}
 use Rattle.lapd_frame.specs.declared.notes.Note.TheVariants as notes
 use Rattle.lapd_frame.specs.declared.timers.Order.TheVariants as orders
 use Rattle.lapd_frame.specs.declared.timers.Timer.TheVariants as timers
-use Rattle.model_teis.specs.declared.terminal.told.T202Order.{T202Order}
 use Rattle.model_teis.specs.network.Events as teis
 use Rattle.model_teis.specs.network.Laws as tei_laws
 use Rattle.model_teis.proofs.OfNetwork.LawLemmas as tei_lemmas
@@ -14,7 +13,9 @@ use Rattle.model_teis.specs.terminal.Events as terminals
 use Rattle.model_teis.specs.terminal.Laws as terminal_laws
 use Rattle.model_teis.specs.terminal.Sound as terminal
 use Rattle.model_teis.specs.terminal.Words.{Course, begun}
+use Rattle.model_teis.proofs.OfTerminal.Brief as brief
 use Rattle.model_teis.proofs.OfTerminal.Served.{leads}
+use Rattle.model_teis.proofs.OfTerminal.Told.{t202_follows}
 use Rattle.model_line.proofs.Managed.{idle_course}
 use Rattle.laws_line.proofs.TeiNotes.{ByChange, noted}
 
@@ -47,8 +48,8 @@ AreOfLine (o ∷ os) = IsOfLine o × AreOfLine os
 of_t201 : (before after : Bool) (os : List Order) → Follows before os after → AreOfLine os
 of_t201 before after os follows = grind arith
 
-of_t202 : (o : Option T202Order) → AreOfLine (option_to_list (option_map order_of o))
-of_t202 o = grind arith
+of_t202 : (before after : Bool) (os : List Order) → terminal_laws.Follows before os after → AreOfLine os
+of_t202 before after os follows = grind arith
 
 -- The table changes so, and no more is told.
 pub record Turn (l : Line) (change : Option Change) (told : LineTold) (m : Management) : Type 0 where
@@ -62,8 +63,8 @@ pub record Turn (l : Line) (change : Option Change) (told : LineTold) (m : Manag
 of_network_notes : (e : TeiEvent) (o : Option Change) (ns : List Note) → ByChange e o ns → AreOfTeis ns
 of_network_notes e o ns by = grind arith
 
-of_news : (o : Option TerminalNews) → AreOfTeis (option_to_list (option_map note_of o))
-of_news o = grind arith
+of_terminal_notes : (ns : List Note) → brief.AreOfTeis ns → AreOfTeis ns
+of_terminal_notes ns are = grind arith
 
 module _ (c : Config) (l : Line) (s : IsSound c l) (P : Effect → Type 0)
     (turns : (change : Option Change) (told : LineTold) (m : Management) (own : Own) → Turn l change told m → P (of_change c change told (record l { management = m; own = own }))) where
@@ -80,9 +81,9 @@ module _ (c : Config) (l : Line) (s : IsSound c l) (P : Effect → Type 0)
   there is e range =
       let led = leads e t range (sides is).0 in
       let after = terminal_after e t in
-      turns (terminal_told e t).change (told_of_terminal (terminal_told e t)) (record l.management { places = after.places })
+      turns (terminal_told e t).change (told_of_management (terminal_told e t)) (record l.management { places = after.places })
       (record { number = after.number; procedure = after.procedure; waiting = after.waiting })
-      (record { moves = led.moves; table = led.sound.table; quiet = of_news (terminal_told e t).news; contents = refl; ordered = of_t202 (terminal_told e t).order; keeps = (refl, refl) })
+      (record { moves = led.moves; table = led.sound.table; quiet = of_terminal_notes (terminal_told e t).notes (brief.noted e t); contents = refl; ordered = of_t202 (is_some t.procedure) (is_some after.procedure) (terminal_told e t).orders (t202_follows e t); keeps = (refl, refl) })
 
   here : (e : TeiEvent) → tei_laws.IsInRange e → P (of_network c e l)
   here e range =
@@ -114,7 +115,7 @@ module _ (c : Config) (l : Line) (s : IsSound c l) (P : Effect → Type 0)
   at_rest true is = there is terminals.expiry tt
   at_rest false net =
       let none = subst (λ b. IsOfSide b l.management l.own) net s.own in
-      subst (λ (course : Course). P (of_change c course.told.change (told_of_terminal course.told) (record l { management = record l.management { places = course.now.places }; own = record { number = course.now.number; procedure = course.now.procedure; waiting = course.now.waiting } })))
+      subst (λ (course : Course). P (of_change c course.told.change (told_of_management course.told) (record l { management = record l.management { places = course.now.places }; own = record { number = course.now.number; procedure = course.now.procedure; waiting = course.now.waiting } })))
       (sym (idle_course c l s none.0)) idle
 
   pub turned-there : (e : TerminalEvent) → IsOwnEvent c e → P (of_terminal c e l)

@@ -5,7 +5,7 @@ use Rattle.laws_line.proofs.Vocabulary.{unless_refused_told, drop_for, managemen
 use Rattle.laws_line.proofs.Vocabulary.{expiry, answer, unless_refused, group_tei, at_place, refusal, IsSound, IsTo}
 use Rattle.laws_line.proofs.Vocabulary.{contents_in, is_data_of, is_unit_of, IsHeard, link_undefined, link_overlong, LinkReceived, link_received, LinkEstablish, link_expired, link_frame, link_requested, LinkRequest, link_wrong_size, LinkEvent, link_told, stream_overlong, bits_dropped, stream_frame, StreamEvent, tei_expiry, TeiEvent}
 use Rattle.laws_line.proofs.Vocabulary.{Release, Data, Unit, SetBusy, ClearBusy, Deactivate, Assign, Remove, Check, Disown, AskTei, VerifyTei, Down, LinkRelease, LinkData, LinkSetBusy, LinkClearBusy, assigning, remove, check, disown, asking, verifying, message, at_units, Control, T202, LineTold, Change, TerminalEvent, terminal_told, terminal_after, terminal_expiry, terminal_in, with_terminal}
-use Rattle.laws_line.proofs.Vocabulary.{without_units, is_terminal, at_a_terminal, at_no_link, at_terminal, of_change, of_management, of_network, of_terminal, of_terminal_if, told_of_management, told_of_terminal, tei_told, tei_after, down as line_down}
+use Rattle.laws_line.proofs.Vocabulary.{without_units, is_terminal, at_a_terminal, at_no_link, at_terminal, of_change, of_management, of_network, of_terminal, of_terminal_if, told_of_management, tei_told, tei_after, down as line_down}
 use Rattle.model_link.specs.Sound as link_sound
 use Rattle.laws_line.proofs.Told.{its-own}
 use Rattle.laws_line.proofs.Hearing.{sapi-is}
@@ -80,7 +80,7 @@ module _ (c : Config) (ranged : IsInRange c) (l : Line) (s : IsSound c l) where
   none-told o t m none = grind arith
 
   none-there : (e : TerminalEvent) (m : Line) → (of_terminal c e m).told.contents ≡ None
-  none-there e m = none-told (terminal_told e (terminal_in m)).change (told_of_terminal (terminal_told e (terminal_in m))) (with_terminal (terminal_after e (terminal_in m)) m) refl
+  none-there e m = none-told (terminal_told e (terminal_in m)).change (told_of_management (terminal_told e (terminal_in m))) (with_terminal (terminal_after e (terminal_in m)) m) refl
 
   none-if : (o : Option TerminalEvent) (m : Line) → (of_terminal_if c o m).told.contents ≡ None
   none-if None m = refl

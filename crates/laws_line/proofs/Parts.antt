@@ -10,8 +10,9 @@ use Rattle.model_teis.proofs.OfNetwork.LawLemmas as tei_lemmas
 use Rattle.model_teis.specs.terminal.Events as terminals
 use Rattle.model_teis.specs.terminal.Laws as terminal_laws
 use Rattle.model_teis.specs.terminal.Words.{Course}
+use Rattle.model_teis.proofs.OfTerminal.Brief.{none_lost}
 use Rattle.model_teis.proofs.OfTerminal.Served.{leads}
-use Rattle.laws_line.proofs.Vocabulary.{Bool, cond, le-leb, ◌&&◌, ◌∙◌, Ok, Unserved, User, Network, Side, Control, Parts, reading, heard_side, addressed, message_of, aim_of_reading, at_side, link_frame, stream_frame, dropped, at_none, at_terminal, at_a_terminal, of_network, of_terminal as effect_of_terminal, of_terminal_if, told_of_terminal, Effect, LineTold, Own, Management, is_terminal}
+use Rattle.laws_line.proofs.Vocabulary.{Bool, cond, le-leb, ◌&&◌, ◌∙◌, Ok, Unserved, User, Network, Side, Control, Parts, reading, heard_side, addressed, message_of, aim_of_reading, at_side, link_frame, stream_frame, dropped, at_none, at_terminal, at_a_terminal, of_network, of_terminal as effect_of_terminal, of_terminal_if, Effect, LineTold, Own, Management, is_terminal}
 use Rattle.laws_line.proofs.Vocabulary.{terminal_in}
 use Rattle.laws_line.proofs.Vocabulary.{with_terminal, IsOfSide, ServesMessages, IsOfTerminal, IsManagedThere, line_of_terminal as of_terminal, T202, AskTei, VerifyTei}
 use Rattle.model_line.specs.Sides.{managed_at}
@@ -99,7 +100,7 @@ module _ (c : Config) (l : Line) (s : IsSound c l) where
   of-terminal is te fits =
       let x = terminal_in l in
       let after_it = terminals.after te x in
-      let t = told_of_terminal (terminals.told te x) in
+      let t = told_of_management (terminals.told te x) in
       let m : Management = record l.management { places = after_it.places } in
       let own : Own = record { number = after_it.number; procedure = after_it.procedure; waiting = after_it.waiting } in
       let o = (terminals.told te x).change in
@@ -109,7 +110,7 @@ module _ (c : Config) (l : Line) (s : IsSound c l) where
         stay = λ number few same. (links number few).0 (same-place o t m own number ∙ same);
         begin = λ number few other. (links number few).1 (λ same. other (sym (same-place o t m own number) ∙ same));
         notes = noted-is c l s t m own o;
-        lost = lost-is c l s t m own o;
+        lost = lost-is c l s t m own o ∙ none_lost te x;
         given_up = given-is c l s t m own refl refl o;
       }
     where
@@ -297,7 +298,7 @@ module _ (c : Config) (l : Line) (s : IsSound c l) (e : Event) where
   own-expiry-falls : e ≡ expiry T202 → (b : Bool) → is_terminal c ≡ b → Is (effect_of_terminal c terminals.expiry l)
   own-expiry-falls by true is = inl (of_terminal terminals.expiry is by)
   own-expiry-falls by false net =
-      subst (λ (course : Course). Is (of_change c course.told.change (told_of_terminal course.told) (with_terminal course.now l)))
+      subst (λ (course : Course). Is (of_change c course.told.change (told_of_management course.told) (with_terminal course.now l)))
       (sym (idle_course c l s (subst (λ b. IsOfSide b l.management l.own) net s.own).0)) (inr (refl, refl))
 
 heard-falls : (c : Config) (l : Line) (s : IsSound c l) (e : StreamEvent) → Falls c l s (hears e) (aim_of_heard c l e)

@@ -1,9 +1,8 @@
 -- An answer has at most four notes and four orders.
 use Rattle.laws_line.proofs.Vocabulary.{ℕ, ◌≤◌, false, List, [], ◌∷◌, ◌++◌, length, Option, Some, None, IfSome, arith, length-append, Refusal, Service, Timer, T201, event-tells, cleared-tells, two-orders, cleared-orders, Change, Config, hears, request, next, LineTold, gave, aim_of_expiry, notes_in, orders_in, Line, terms_at, unless_refused_told, aim_of_heard, told_of_management, of_link}
-use Rattle.laws_line.proofs.Vocabulary.{of_change, of_management, of_aim, Taken, first_taken, taken, next_of, Request, Establish, Release, Assign, Remove, SetBusy, ClearBusy, Deactivate, aim_of_request, IsBrief, told_brief, heard_aims, expiry_starts, Down, without_units, option_map, T200, T203, Event, expiry, AnswersAreShort, answer, unless_refused, refusal, Data, Unit, Check, link_received}
+use Rattle.laws_line.proofs.Vocabulary.{of_change, of_management, of_aim, Taken, first_taken, taken, next_of, Request, Establish, Release, Assign, Remove, SetBusy, ClearBusy, Deactivate, aim_of_request, told_brief, own_brief, heard_aims, expiry_starts, Down, without_units, option_map, T200, T203, Event, expiry, AnswersAreShort, answer, unless_refused, refusal, Data, Unit, Check, link_received}
 use Rattle.laws_line.proofs.Vocabulary.{LinkEvent, StreamEvent, down, message, tei_told, check, disown, tei_after, remove, assigning, tei_expiry, TeiEvent, Disown}
-use Rattle.laws_line.proofs.Vocabulary.{Bool, true, cond, T202, AskTei, VerifyTei, TerminalEvent, asking, verifying, terminal_expiry, terminal_told, terminal_after, terminal_in, with_terminal, is_terminal, at_a_terminal, of_network, of_terminal, of_terminal_if, told_of_terminal, note_of, order_of}
-use Rattle.model_line.proofs.Managed.{one_at_most}
+use Rattle.laws_line.proofs.Vocabulary.{Bool, true, cond, T202, AskTei, VerifyTei, TerminalEvent, asking, verifying, terminal_expiry, terminal_told, terminal_after, terminal_in, with_terminal, is_terminal, at_a_terminal, of_network, of_terminal, of_terminal_if}
 
 record IsShort (t : LineTold) : Type 0 where
   notes : length t.notes ≤ 4
@@ -31,8 +30,9 @@ module _ (c : Config) where
 
   terminal_short : (e : TerminalEvent) (l : Line) → IsShort (of_terminal c e l).told
   terminal_short e l =
-      let t = terminal_told e (terminal_in l) in
-      change_short t.change (told_of_terminal t) (with_terminal (terminal_after e (terminal_in l)) l) (record { notes = one_at_most note_of t.news; orders = one_at_most order_of t.order })
+      let x = terminal_in l in
+      let t = own_brief e x in
+      change_short (terminal_told e x).change (told_of_management (terminal_told e x)) (with_terminal (terminal_after e x) l) (record { notes = t.notes; orders = t.orders })
 
   if_short : (o : Option TerminalEvent) (l : Line) → IsShort (of_terminal_if c o l).told
   if_short None l = record { notes = omega arith; orders = omega arith }

@@ -62,6 +62,7 @@ pub use Rattle.model_link.specs.declared.states.State.{State}
 pub use Rattle.model_link.specs.declared.terms.Terms.{Terms}
 pub use Rattle.model_link.specs.declared.timers.LinkTimer.{LinkTimer}
 pub use Rattle.model_teis.proofs.OfNetwork.Brief.{IsBrief, told_brief}
+pub use Rattle.model_teis.proofs.OfTerminal.Brief.{told_brief as own_brief}
 pub use Rattle.model_teis.proofs.OfNetwork.Followed.{expired_t201_follows, t201_follows}
 pub use Rattle.model_teis.proofs.Tables.{at-off, at-within, is_on-at, not_not, place_of-is}
 pub use Rattle.model_teis.specs.Refused.{refusal_if}
@@ -86,9 +87,8 @@ pub use Rattle.model_teis.proofs.OfNetwork.GivenUp.{down_gives_up}
 pub use Rattle.model_teis.specs.declared.network.check.Check.{Check as TeiCheck}
 pub use Rattle.model_teis.specs.terminal.Events.{Event as TerminalEvent, after as terminal_after, ask as asking, assign as terminal_assign, down as terminal_down, expiry as terminal_expiry, message as terminal_message, remove as terminal_remove, told as terminal_told, verify as verifying}
 unfoldable pub use Rattle.model_teis.specs.terminal.Events.{course as terminal_course}
-pub use Rattle.model_teis.specs.terminal.Machine.{Terminal, TerminalTold}
+pub use Rattle.model_teis.specs.terminal.Machine.{Terminal}
 pub use Rattle.model_teis.specs.declared.terminal.messages.Message.{Message as OwnMessage}
-pub use Rattle.model_teis.specs.declared.terminal.told.News.{News as TerminalNews}
 pub use Rattle.model_teis.specs.terminal.Messages.{frame_of as own_frame_of}
 pub use Rattle.model_line.proofs.AimsSound.{IsProper}
 pub use Rattle.model_line.proofs.Managed.{IsAsked, IsOwnEvent, by-managed, by-own-event}
@@ -108,7 +108,7 @@ pub use Rattle.model_line.proofs.TakenSound.{round_below}
 pub use Rattle.model_line.proofs.TakenWalk.{next_walk, taken_walk}
 pub use Rattle.model_line.specs.Counts.{is_given, may_send, one}
 pub use Rattle.model_line.specs.Deliveries.{is_change_at}
-pub use Rattle.model_line.specs.Effect.{Aim, Effect, at_a_terminal, at_link, at_management, at_no_link, at_none, at_terminal, at_units, note_of, of_aim, of_change, of_link, of_management, of_network, of_terminal, of_terminal_if, order_of, told_of_link, told_of_management, told_of_terminal, without_units}
+pub use Rattle.model_line.specs.Effect.{Aim, Effect, at_a_terminal, at_link, at_management, at_no_link, at_none, at_terminal, at_units, of_aim, of_change, of_link, of_management, of_network, of_terminal, of_terminal_if, told_of_link, told_of_management, without_units}
 pub use Rattle.model_line.specs.Event.{Answer, Event, LineTold, dropped, expiry, gave, hears, next, nothing, refused, request, told}
 pub use Rattle.model_line.specs.Expiry.{aim_of_expiry, at_timer, is_running, runs_at}
 pub use Rattle.model_line.specs.Heard.{addressed, aim_of_heard, aim_of_long, aim_of_reading, aim_of_unnumbered, at_place, drop_for, group_tei, heard_side, management_sapi, message_of, to_service, unless_at_link}

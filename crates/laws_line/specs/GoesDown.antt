@@ -1,8 +1,7 @@
 -- A line goes down (Q.921 annex B, persistent deactivation): what waits on it and is of no link is given up.
-use Rattle.std.specs.Prelude.{◌≡◌, ◌++◌, false, length, replicate, option_map, option_to_list, [], None}
+use Rattle.std.specs.Prelude.{◌≡◌, ◌++◌, false, length, replicate, [], None}
 use Rattle.model_teis.specs.network.Laws.{stop_of}
-use Rattle.model_teis.specs.terminal.Words as terminals
-use Rattle.model_line.specs.Effect.{order_of}
+use Rattle.model_teis.specs.terminal.Words.{stop_of as stop_202}
 use Rattle.model_line.specs.Event.{Answer, told, nothing}
 use Rattle.model_line.specs.Line.{Line}
 
@@ -14,4 +13,4 @@ pub record GivesUp (before after : Line) (answer : Answer) : Type 0 where
     own = record before.own { procedure = None; waiting = [] };
     units = [];
   }
-  pub answer_is : answer ≡ told (record nothing { orders = stop_of before.management.check ++ option_to_list (option_map order_of (terminals.stop_of before.own.procedure)) })
+  pub answer_is : answer ≡ told (record nothing { orders = stop_of before.management.check ++ stop_202 before.own.procedure })

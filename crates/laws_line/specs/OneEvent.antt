@@ -1,5 +1,5 @@
 -- One part of a line has an event, and all else of the line is as it was.
-use Rattle.std.specs.Prelude.{◌≡◌, ◌≢◌, ◌⊎◌, ℕ, ◌<◌, true, false, List, [], ◌∷◌, ◌++◌, Option, Some, option_map, option_to_list}
+use Rattle.std.specs.Prelude.{◌≡◌, ◌≢◌, ◌⊎◌, ℕ, ◌<◌, true, false, List, [], ◌∷◌, ◌++◌, Option, Some}
 use Rattle.lapd_frame.specs.declared.notes.Note.{Note}
 use Rattle.lapd_frame.specs.declared.services.Service.{Service}
 use Rattle.lapd_frame.specs.declared.services.Service.TheVariants.{Call, Packet}
@@ -12,7 +12,6 @@ use Rattle.model_link.specs.Events as link
 use Rattle.model_link.specs.Link.{fresh}
 use Rattle.model_link.specs.Machine as links
 use Rattle.model_line.specs.declared.config.Config.{Config}
-use Rattle.model_line.specs.Effect.{note_of}
 use Rattle.model_line.specs.Event.{Event, request, next, Answer, told, refused, gave, nothing}
 use Rattle.model_line.specs.Line.{Line, is_terminal, terminal_in, with_terminal, UnitData, link_number, link_count, place_at, tei_at, place_in, link_in, link_at, with_link, terms}
 use Rattle.model_line.specs.Machine as lines
@@ -60,7 +59,7 @@ pub record IsManagedThere (c : Config) (before after : Line) (answer : Answer) (
   pub stay : (number : ℕ) → number < link_count c → tei_at (place_at number) after ≡ tei_at (place_at number) before → link_at number after ≡ link_at number before
   pub begin : (number : ℕ) → number < link_count c → IsMoved number before after → link_at number after ≡ fresh
   pub notes : notes_of answer
-      ≡ option_to_list (option_map note_of (terminals.told event (terminal_in before)).news) ++ noted_behind c before (terminals.told event (terminal_in before)).change
+      ≡ (terminals.told event (terminal_in before)).notes ++ noted_behind c before (terminals.told event (terminal_in before)).change
   pub lost : lost_in answer ≡ 0
   pub given_up : (service : Service) → given_up_in service answer ≡ given_up_behind c before service (terminals.told event (terminal_in before)).change
 

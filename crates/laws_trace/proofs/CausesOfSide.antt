@@ -12,7 +12,7 @@ use Rattle.model_teis.specs.terminal.Events as terminals
 use Rattle.model_teis.specs.terminal.Events.{Event as TerminalEvent, after as terminal_after, told as terminal_told}
 use Rattle.model_bits.specs.declared.heard.Cause.{Cause}
 use Rattle.model_line.specs.Event as line_event
-use Rattle.model_line.specs.Effect.{at_a_terminal, at_terminal, of_network, of_terminal_if, told_of_terminal, unserved_cause, without_units}
+use Rattle.model_line.specs.Effect.{at_a_terminal, at_terminal, of_network, of_terminal_if, told_of_management, unserved_cause, without_units}
 use Rattle.model_line.specs.Line.{is_terminal, terminal_in, with_terminal}
 use Rattle.laws_trace.specs.CausesAreTold.{serves_information, unless}
 use Rattle.lapd_frame.specs.declared.notes.Note.{Note}
@@ -171,7 +171,7 @@ abbrev unserved_by : Config → TeiEvent → Line → Bool
 unserved_by c e l = cond (is_terminal c) (unserved_there (at_a_terminal e) l) (tei_told e l.management).unserved
 
 own-named : (c : Config) (e : TerminalEvent) (l : Line) → named c l (at_terminal e) ≡ unserved_cause (terminal_told e (terminal_in l)).unserved
-own-named c e l = let t = terminal_told e (terminal_in l) in change-keeps c t.change (told_of_terminal t) (with_terminal (terminal_after e (terminal_in l)) l)
+own-named c e l = let t = terminal_told e (terminal_in l) in change-keeps c t.change (told_of_management t) (with_terminal (terminal_after e (terminal_in l)) l)
 
 own-named-if : (c : Config) (o : Option TerminalEvent) (l : Line) → (of_terminal_if c o l).told.cause ≡ unserved_cause (unserved_there o l)
 own-named-if c o l = grind (arith, own-named)

@@ -9,7 +9,7 @@ use Rattle.model_line.specs.Line.{is_terminal}
 use Rattle.model_line.specs.Line.{Own}
 use Rattle.model_line.specs.Refusal.{wrong_side, not_network, not_terminal, procedure_running}
 use Rattle.model_line.specs.Sound.{IsOfSide}
-use Rattle.model_line.proofs.Downs.{stop_202}
+use Rattle.model_teis.specs.terminal.Words.{stop_of as stop_202}
 use Rattle.model_link.specs.Events.{Establish as LinkEstablish, Release as LinkRelease, Data as LinkData}
 use Rattle.laws_trace.proofs.Vocabulary.{◌++◌, append-nil, nothing_due}
 use Rattle.model_line.specs.Request.{AskTei, VerifyTei, Data, Unit}

@@ -1,14 +1,12 @@
 -- What the observer of a terminal's line knows of it is what its TEI management has, and what is due by an event is what that
 -- tells.
-use Rattle.laws_trace.proofs.Vocabulary.{◌≡◌, ℕ, ◌+◌, ◌*◌, ◌/◌, ◌%◌, ◌==◌, ◌&&◌, Bool, true, false, cond, not, List, [], ◌∷◌, Option, Some, None, refl, sym, ap, ◌∙◌, arith, fold, filter, list_any, is_some, nat_le, nat_lt, option_map, free_place}
-use Rattle.std.specs.Prelude.{option_to_list}
+use Rattle.laws_trace.proofs.Vocabulary.{◌≡◌, ℕ, ◌+◌, ◌*◌, ◌/◌, ◌%◌, ◌==◌, ◌&&◌, Bool, true, false, cond, not, List, [], ◌∷◌, Option, Some, None, refl, sym, ap, ◌∙◌, arith, fold, filter, list_any, is_some, nat_le, nat_lt, free_place}
 use Rattle.lapd_frame.specs.declared.notes.Note.{Note}
 use Rattle.lapd_frame.specs.declared.notes.Note.TheVariants as notes
 use Rattle.lapd_frame.specs.declared.timers.Order.{Order}
 use Rattle.lapd_frame.specs.declared.timers.Order.TheVariants.{Stop}
 use Rattle.lapd_frame.specs.declared.timers.Timer.TheVariants.{T202}
 use Rattle.model_teis.specs.Table as table
-use Rattle.model_teis.specs.declared.terminal.told.News.TheVariants as news
 use Rattle.model_teis.specs.declared.terminal.procedure.Procedure.{Procedure}
 use Rattle.model_teis.specs.declared.terminal.procedure.Procedure.TheVariants.{Asking, Verifying}
 use Rattle.model_teis.specs.terminal.Machine.{Terminal}
@@ -17,7 +15,6 @@ use Rattle.model_teis.specs.terminal.Rows as rows
 use Rattle.model_teis.specs.terminal.Words as words
 use Rattle.model_teis.specs.Steps.{nothing_happens}
 use Rattle.model_teis.specs.terminal.Words.{Course, begun, end_procedure, end_verifying_of, unserved}
-use Rattle.model_line.specs.Effect.{note_of, order_of}
 use Rattle.laws_trace.specs.ManagingTerminal as seen
 use Rattle.laws_trace.specs.ManagingTerminal.{OfTerminal}
 use Rattle.laws_trace.proofs.TerminalTables.{IsOnce, filter-same, any-same, response-same, response-for-same, verified-same, request-same, verify-same, on-same, free-same, comes-same, leaves-same}
@@ -28,7 +25,7 @@ as_known t notes orders =
     record { places = t.places; number = t.number; procedure = t.procedure; owed = t.waiting; notes = notes; orders = orders; begins = []; granted = None }
 
 abbrev pub shown : Course → OfTerminal
-shown x = as_known x.now (option_to_list (option_map note_of x.told.news)) (option_to_list (option_map order_of x.told.order))
+shown x = as_known x.now x.told.notes x.told.orders
 
 abbrev pub served : Course → Option OfTerminal
 served x = cond x.told.unserved None (Some (shown x))
@@ -111,7 +108,7 @@ module _ (t : Terminal) (once : (tei : ℕ) → IsOnce tei t.places) where
   abbrev got : ℕ → OfTerminal
   got tei = record (seen.over k) { places = seen.with_tei tei t.places; notes = notes.Assigned tei ∷ [] }
 
-  got-is : (tei place : ℕ) → free_place t.places ≡ Some place → got tei ≡ shown (words.note (news.Assigned tei) (end_procedure (words.join tei place (begun t))))
+  got-is : (tei place : ℕ) → free_place t.places ≡ Some place → got tei ≡ shown (words.note (notes.Assigned tei) (end_procedure (words.join tei place (begun t))))
   got-is tei place free =
       ap (λ places. record (seen.over k) { places = places; notes = notes.Assigned tei ∷ [] }) (comes-same tei place t.places free)
       ∙ ap (λ (x : OfTerminal). record x { notes = notes.Assigned tei ∷ [] }) (over-is (words.join tei place (begun t)))
@@ -141,7 +138,7 @@ module _ (t : Terminal) (once : (tei : ℕ) → IsOnce tei t.places) where
   denied-is ri None = refl
   denied-is ri (Some (Asking own attempts)) = go (own == ri)
     where
-      go : (b : Bool) → cond b (Some (record k { notes = notes.Denied ∷ [] })) None ≡ served ((cond b (words.note news.Denied) unserved) (begun t))
+      go : (b : Bool) → cond b (Some (record k { notes = notes.Denied ∷ [] })) None ≡ served ((cond b (words.note notes.Denied) unserved) (begun t))
       go true = refl
       go false = refl
   denied-is ri (Some (Verifying on attempts)) = refl

@@ -1,13 +1,12 @@
 -- What is due of TEI management by one event of a terminal's line is what its answer shows, and the observer follows it.
-use Rattle.laws_trace.proofs.Vocabulary.{◌≡◌, ℕ, Bool, true, false, cond, List, [], ◌++◌, map, take, drop, slice_get, filter, Option, Some, None, option_map, refl, sym, ap, ◌∙◌, subst, append-nil, true≢false, inl, inr, option_map_or, none-some, filter-append, Timer, Management, Config, Aim, at_management, of_aim, hears, expiry, next, Line}
+use Rattle.laws_trace.proofs.Vocabulary.{◌≡◌, ℕ, Bool, true, false, cond, List, [], ◌++◌, map, take, drop, slice_get, filter, Option, Some, None, is_some, refl, sym, ap, ◌∙◌, subst, append-nil, true≢false, inl, inr, option_map_or, none-some, filter-append, Timer, Management, Config, Aim, at_management, of_aim, hears, expiry, next, Line}
 use Rattle.laws_trace.proofs.Vocabulary.{aim_of_heard, Taken, taken, line_of, heard_aims, IsOwed, IsIdle, contents_of_link, served, TimerT200 as T200, TimerT203 as T203, T201, Event, told, line_after as after, answer, IsSound, Managed, is_of_teis, is_of_line, received, StreamEvent, tei_message}
-use Rattle.std.specs.Prelude.{option_to_list}
 use Rattle.std.specs.Option.{option_and_then}
+use Rattle.lapd_frame.specs.declared.notes.Note.{Note}
+use Rattle.lapd_frame.specs.declared.timers.Order.{Order}
 use Rattle.lapd_frame.specs.declared.timers.Timer.TheVariants.{T202}
 use Rattle.model_teis.specs.network.Events as teis
 use Rattle.model_teis.specs.declared.terminal.messages.Message.{Message}
-use Rattle.model_teis.specs.declared.terminal.told.News.{News}
-use Rattle.model_teis.specs.declared.terminal.told.T202Order.{T202Order}
 use Rattle.model_teis.specs.terminal.Events as terminals
 use Rattle.model_teis.specs.terminal.Events.{Event as TerminalEvent}
 use Rattle.model_teis.specs.terminal.Laws as terminal_laws
@@ -15,9 +14,10 @@ use Rattle.model_teis.specs.terminal.Machine.{Terminal}
 use Rattle.model_teis.specs.terminal.Messages as messages
 use Rattle.model_teis.specs.terminal.Sound as terminal
 use Rattle.model_teis.specs.terminal.Words.{Course}
+use Rattle.model_teis.proofs.OfTerminal.Brief.{AreOfTeis, noted, none_lost}
 use Rattle.model_teis.proofs.OfTerminal.Served.{leads}
-use Rattle.model_teis.proofs.OfTerminal.Told.{unserved_changes_nothing}
-use Rattle.model_line.specs.Effect.{Effect, at_a_terminal, note_of, order_of, of_network, of_terminal, told_of_terminal}
+use Rattle.model_teis.proofs.OfTerminal.Told.{t202_follows, unserved_changes_nothing}
+use Rattle.model_line.specs.Effect.{Effect, at_a_terminal, of_network, of_terminal, told_of_management}
 use Rattle.model_line.specs.Line.{is_terminal, Own, terminal_in, with_terminal}
 use Rattle.model_line.specs.Sound.{IsOfSide, IsUnused}
 use Rattle.model_link.specs.declared.timers.LinkTimer.TheVariants as link_timer
@@ -35,11 +35,11 @@ use Rattle.laws_trace.proofs.Tracked.{IsKnown, OfSide, Tracks, Shows, IsQuiet, I
 use Rattle.laws_trace.proofs.Vocabulary.{arith}
 
 -- Its notes are of TEIs, and its orders of the line's own timers.
-all-of-teis : (o : Option News) → filter is_of_teis (option_to_list (option_map note_of o)) ≡ option_to_list (option_map note_of o)
-all-of-teis o = grind arith
+all-of-teis : (ns : List Note) → AreOfTeis ns → filter is_of_teis ns ≡ ns
+all-of-teis ns are = grind arith
 
-all-of-line : (o : Option T202Order) → filter is_of_line (option_to_list (option_map order_of o)) ≡ option_to_list (option_map order_of o)
-all-of-line o = grind arith
+all-of-line : (before after : Bool) (orders : List Order) → terminal_laws.Follows before orders after → filter is_of_line orders ≡ orders
+all-of-line before after orders follows = grind arith
 
 -- A message goes in the octets that are due.
 same-octets : (m : Message) → messages.information_of m ≡ octets_of m
@@ -79,7 +79,7 @@ module _ (c : Config) (l : Line) (s : IsSound c l) (is : is_terminal c ≡ true)
     pub terminal-shows : (e : Event) (granted : Option Bool) → ((so : Bool) → granted ≡ Some so → true ≡ so)
         → Shows c l e (seen_there v (record (shown x) { granted = granted })) (told y.told) y.line
     terminal-shows e granted so =
-        let told = told_of_terminal x.told in
+        let told = told_of_management x.told in
         let then = with_terminal x.now l in
         let after : Behind c told then x.told.change = behind c told then x.told.change in
         let d = seen_there v (record (shown x) { granted = granted }) in
@@ -87,12 +87,12 @@ module _ (c : Config) (l : Line) (s : IsSound c l) (is : is_terminal c ≡ true)
           as_due = record {
             notes =
                 ap (filter is_of_teis) after.notes ∙ filter-append is_of_teis told.notes after.others
-                ∙ ap (λ ns. filter is_of_teis told.notes ++ ns) (none-of-teis after.others after.are) ∙ append-nil (filter is_of_teis told.notes) ∙ all-of-teis x.told.news;
-            orders = after.orders ∙ all-of-line x.told.order;
+                ∙ ap (λ ns. filter is_of_teis told.notes ++ ns) (none-of-teis after.others after.are) ∙ append-nil (filter is_of_teis told.notes) ∙ all-of-teis x.told.notes (noted te t);
+            orders = after.orders ∙ all-of-line (is_some t.procedure) (is_some x.now.procedure) x.told.orders (t202_follows te t);
             begins = refl;
             granted = so;
           };
-          lost = inl (after.lost ∙ sym quiet.lost);
+          lost = inl (after.lost ∙ none_lost te t ∙ sym quiet.lost);
           follows =
               subst (λ m. Tracks c d m y.line.own) (sym after.stays)
               (subst (Tracks c d then.management) (sym after.own)

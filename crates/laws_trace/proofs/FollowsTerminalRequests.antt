@@ -19,7 +19,7 @@ use Rattle.model_line.specs.Line.{is_at, is_terminal, terminal_in}
 use Rattle.model_line.specs.Refusal.{first_that_holds, wrong_side, not_network, not_terminal, procedure_running}
 use Rattle.model_line.specs.Request.{AskTei, VerifyTei, Data, Unit}
 use Rattle.model_line.specs.Sides.{is_network}
-use Rattle.model_line.proofs.Downs.{stop_202}
+use Rattle.model_teis.specs.terminal.Words.{stop_of as stop_202}
 use Rattle.model_link.specs.Events.{Establish as LinkEstablish, Release as LinkRelease, Data as LinkData}
 use Rattle.laws_trace.specs.Managing.{of_terminal as seen_there}
 use Rattle.laws_trace.specs.ManagingTerminal as seen

@@ -3,6 +3,10 @@ use Rattle.laws_trace.proofs.Vocabulary.{◌≡◌, ℕ, ◌+◌, ◌-◌, ◌<�
 use Rattle.laws_trace.proofs.Vocabulary.{of_aim, aim_of_expiry, aim_of_heard, hears, expiry, request, next, Answer, refused, Line, fresh_line, has_tei, link_of, aim_of, unless_refused, unless_refused_told, at_requested, aim_of_request, heard_aims, IsInRange, lost_in, deactivates, HaveTheirTimers, AllHaveTheirTimers, Card, line_at, is_full, at, fresh_is_sound, has_lines, by_room, line_sound}
 use Rattle.laws_trace.proofs.Vocabulary.{Moment}
 use Rattle.laws_trace.proofs.Vocabulary.{config-stays, at_no_link, Event, refusal, IsSound, after, card_answer as answer, after_all, AreAtLines, always_sound, put_in, managing_is_on as is_on, due, managed_after, Observed, View, by_event, view_of, view_behind, moment_of, is_empty, outgoing_of, seen, trace_of, Always, by-down, fresh, LinkRequest, StreamEvent, CardEvent}
+use Rattle.model_teis.specs.terminal.Events as terminals
+use Rattle.model_teis.proofs.OfTerminal.Brief.{none_lost}
+use Rattle.model_line.specs.Effect.{at_terminal, told_of_management}
+use Rattle.model_line.specs.Line.{terminal_in, with_terminal}
 use Rattle.model_line.specs.Machine as lines
 use Rattle.model_card.specs.Sound as card_sound
 use Rattle.laws_trace.specs.NoLossInVain.{puts_by, NoLossInVain}
@@ -14,7 +18,7 @@ use Rattle.laws_trace.proofs.DeliveriesWatched.{Standing, at_first as watched_fi
 use Rattle.laws_trace.proofs.LineAtEnd.{line-at-end, link-at-end}
 use Rattle.laws_trace.proofs.LinksMove.{none-expires}
 use Rattle.laws_trace.proofs.LossesAtLine.{one-loses, event-loses}
-use Rattle.laws_trace.proofs.ManagingNotes.{is_management}
+use Rattle.laws_trace.proofs.ManagingNotes.{behind, is_management}
 use Rattle.laws_trace.proofs.NewsOfLeaving.{one-stays}
 use Rattle.laws_trace.proofs.ObservedRun.{holds-behind}
 use Rattle.laws_trace.proofs.OneLink.{Goes, is_at_link, event-goes}
@@ -91,6 +95,10 @@ module _ (c : Config) (ranged : IsInRange c) (l : Line) (s : IsSound c l) (timed
       let zero : lost_in a ≡ 0 = lost_is ∙ by-down c l s (λ f. f.told.lost ≡ 0) refl in absurd (omega (arith, some, zero))
   by-aim (at_link service tei place event) is unmanaged none lost_is some =
       by-link service tei (ap (is_at_link service tei) is ∙ ap (λ b. b && tei == tei) (service-same service) ∙ eq-eqb tei tei refl) some
+  by-aim (at_terminal te) is unmanaged none lost_is some =
+      let t = terminals.told te (terminal_in l) in
+      let behind_it = behind c (told_of_management t) (with_terminal (terminals.after te (terminal_in l)) l) t.change in
+      let zero : lost_in a ≡ 0 = lost_is ∙ behind_it.lost ∙ none_lost te (terminal_in l) in absurd (omega (arith, some, zero))
   by-aim aim is unmanaged none lost_is some = grind arith
 
 none-less : 0 < 0 → ⊥

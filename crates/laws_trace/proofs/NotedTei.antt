@@ -12,7 +12,7 @@ use Rattle.model_teis.specs.terminal.Machine.{Terminal}
 use Rattle.model_teis.specs.terminal.Rows as rows
 use Rattle.model_teis.specs.terminal.Words.{Course}
 use Rattle.model_line.proofs.Managed.{idle_course}
-use Rattle.model_line.specs.Effect.{Effect, at_terminal, of_change, of_network, of_terminal, told_of_management, told_of_terminal}
+use Rattle.model_line.specs.Effect.{Effect, at_terminal, of_change, of_network, of_terminal, told_of_management}
 use Rattle.model_line.specs.Line.{Own, is_terminal, terminal_in, with_terminal}
 use Rattle.model_line.specs.Machine as lines
 use Rattle.model_line.specs.Sound.{IsOfSide}
@@ -50,7 +50,7 @@ answers-stay : (on : List ℕ) (x : Course) → (fold rows.answered x on).told.c
 answers-stay [] x = refl
 answers-stay (tei ∷ on) x = answers-stay on (rows.answer tei x) ∙ (grind arith)
 
-noted-there : (m : Terminal) (e : terminals.Event) → IsKeptThere e → (tei place : ℕ) → (terminals.told e m).change ≡ Some (Left tei place) → first_of (told_of_terminal (terminals.told e m)).notes ≡ Some tei
+noted-there : (m : Terminal) (e : terminals.Event) → IsKeptThere e → (tei place : ℕ) → (terminals.told e m).change ≡ Some (Left tei place) → first_of (told_of_management (terminals.told e m)).notes ≡ Some tei
 unfolding terminals.course
 noted-there m e kept tei place is = grind (arith, answers-stay, none-some)
 
@@ -81,7 +81,7 @@ module _ (c : Config) (l : Line) (s : IsSound c l) (tei : ℕ) where
   by-terminal e is range kept =
       let t = terminals.told e (terminal_in l) in
       let new = with_terminal (terminals.after e (terminal_in l)) l in
-      by-change t.change (told_of_terminal t) new.management new.own (leads e (terminal_in l) range (subst (λ b. IsOfSide b l.management l.own) is s.own).0).moves
+      by-change t.change (told_of_management t) new.management new.own (leads e (terminal_in l) range (subst (λ b. IsOfSide b l.management l.own) is s.own).0).moves
       (λ place left. noted-there (terminal_in l) e kept tei place left)
 
   expired : (b : Bool) → is_terminal c ≡ b → Names (of_terminal c terminals.expiry l)

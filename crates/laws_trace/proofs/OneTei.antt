@@ -2,7 +2,7 @@
 use Rattle.laws_trace.proofs.Vocabulary.{◌≡◌, ℕ, ◌<◌, ◌==◌, ◌&&◌, ◌||◌, Bool, true, false, cond, not, get_or, set, Option, Some, None, refl, sym, ap, ◌∙◌, ◌⊎◌, inl, inr, ⊎_elim, arith, true≢false, and_parts, eq-eqb, eqb-true, none-some, some-same, get_or-set_other, get_or-set_same}
 use Rattle.laws_trace.proofs.Vocabulary.{Service, Config, Answer, PoolFull, refused, Line, has_tei, place_in, aim_of, aim_of_heard, aim_of_expiry, aim_of_request, unless_refused, refusal, IsProper, heard_proper, expiry_proper, request_proper, IsAt, Management, Change, Gained, Left, HasLeft, IsSoundTable, Moves, place_of-is, is_on-at, is-off}
 use Rattle.laws_trace.proofs.Vocabulary.{Aim, at_none, at_link, at_management, at_units, at_no_link, of_aim, of_change, LineTold, IsSound, IsInRange, by-down, hears, expiry, request, next, Event, seen, Card, line_at, at, has_lines, by_room, line_sound, after, card_answer as answer, CardIsSound}
-use Rattle.model_line.specs.Effect.{at_terminal, of_network, of_terminal, told_of_management, told_of_terminal}
+use Rattle.model_line.specs.Effect.{at_terminal, of_network, of_terminal, told_of_management}
 use Rattle.model_line.specs.Line.{Own}
 use Rattle.model_line.specs.Machine as lines
 use Rattle.model_card.specs.Event as card_event
@@ -188,7 +188,7 @@ module _ (c : Config) (l : Line) (s : IsSound c l) (service : Service) (tei by :
       go : (b : Bool) → has_tei tei (cond b (of_terminal c (terminals.remove n) l) (of_network c (teis.remove n) l)).line ≡ false → tei ≡ n
       go true off =
           let new = with_terminal (terminals.after (terminals.remove n) (terminal_in l)) l in
-          it-is n (has_tei tei new) x.0 (sym (change-stays c l s tei (terminals.told (terminals.remove n) (terminal_in l)).change (told_of_terminal (terminals.told (terminals.remove n) (terminal_in l))) new) ∙ off)
+          it-is n (has_tei tei new) x.0 (sym (change-stays c l s tei (terminals.told (terminals.remove n) (terminal_in l)).change (told_of_management (terminals.told (terminals.remove n) (terminal_in l))) new) ∙ off)
           (removed-there (terminal_in l) n tei s.management.table)
       go false off =
           let new = record l { management = teis.after (teis.remove n) l.management } in

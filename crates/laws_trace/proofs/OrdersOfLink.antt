@@ -2,7 +2,7 @@
 use Rattle.laws_trace.proofs.Vocabulary.{ap, ◌∙◌, ◌++◌}
 use Rattle.model_teis.specs.declared.terminal.procedure.Procedure.{Procedure}
 use Rattle.laws_line.proofs.Changes.{AreOfLine, IsOfLine}
-use Rattle.model_line.proofs.Downs.{stop_202}
+use Rattle.model_teis.specs.terminal.Words.{stop_of as stop_202}
 use Rattle.laws_trace.proofs.Vocabulary.{arith, ◌≡◌, ℕ, ◌==◌, ◌&&◌, Bool, true, false, cond, not, List, [], ◌∷◌, Option, refl, filter, filter-append, Service, Order, Start, Stop, Timer, same_service, Terms, LinkTimer, Link, obeyed, runs, timer_at, orders_for, timer_of, obeyed-append, stop_of, Check, obey, is_order_of, LinkEvent as Event, course, link_told as told, cond_both}
 use Rattle.laws_trace.proofs.Facts.{its-own}
 

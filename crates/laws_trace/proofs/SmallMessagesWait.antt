@@ -13,7 +13,7 @@ use Rattle.model_teis.specs.network.Events as teis
 use Rattle.model_teis.specs.network.Events.{down as tei_down}
 use Rattle.model_teis.specs.terminal.Events as terminals
 use Rattle.model_teis.specs.terminal.Events.{Event as TerminalEvent, after as terminal_after, told as terminal_told}
-use Rattle.model_line.specs.Effect.{at_a_terminal, at_terminal, of_management, of_network, of_terminal, of_terminal_if, told_of_terminal, without_units}
+use Rattle.model_line.specs.Effect.{at_a_terminal, at_terminal, of_management, of_network, of_terminal, of_terminal_if, without_units}
 use Rattle.model_line.specs.Line.{Own, is_terminal, seed_of, terminal_in, with_terminal}
 use Rattle.model_line.specs.Taken.{message_taken, unit_taken, with_own_message}
 use Rattle.model_line.proofs.TakenWalk.{either}
@@ -72,7 +72,7 @@ changed-small c o t l h = grind (arith, same-messages)
 terminal-small : (c : Config) (e : TerminalEvent) (l : Line) → MessagesAreSmall l → MessagesAreSmall (of_terminal c e l).line
 terminal-small c e l h =
     let t = terminal_told e (terminal_in l) in
-    changed-small c t.change (told_of_terminal t) (with_terminal (terminal_after e (terminal_in l)) l) (record { messages = h.messages; own = own.own-after e (terminal_in l) h.own })
+    changed-small c t.change (told_of_management t) (with_terminal (terminal_after e (terminal_in l)) l) (record { messages = h.messages; own = own.own-after e (terminal_in l) h.own })
 
 terminal-if-small : (c : Config) (o : Option TerminalEvent) (l : Line) → MessagesAreSmall l → MessagesAreSmall (of_terminal_if c o l).line
 terminal-if-small c o l h = grind (arith, terminal-small)

@@ -9,7 +9,7 @@ use Rattle.model_teis.specs.terminal.Events as terminals
 unfoldable use Rattle.model_teis.specs.terminal.Events.{course as terminal_course}
 use Rattle.model_teis.specs.terminal.Rows as terminal_rows
 use Rattle.model_teis.specs.terminal.Words as terminal_words
-use Rattle.model_line.specs.Effect.{at_a_terminal, at_management, of_aim, of_network, of_terminal, of_terminal_if, told_of_terminal}
+use Rattle.model_line.specs.Effect.{at_a_terminal, at_management, of_aim, of_network, of_terminal, of_terminal_if}
 use Rattle.model_line.specs.Line.{is_terminal, terminal_in, with_terminal}
 use Rattle.model_line.specs.Machine.{unless_refused, unless_refused_told}
 use Rattle.model_line.specs.Refusal.{refusal}
@@ -82,7 +82,7 @@ module _ (service : Service) (tei : ℕ) (c : Config) (ranged : line_sound.IsInR
       ∙ ap (λ o. terminal_rows.join_at tei o (terminal_words.begun (terminal_in l))) (free-is c.terminals some)
 
   there : of_terminal c (terminals.assign tei) l ≡ on_line
-  there = ap (λ (x : terminal_words.Course). of_change c x.told.change (told_of_terminal x.told) (with_terminal x.now l)) joined-there
+  there = ap (λ (x : terminal_words.Course). of_change c x.told.change (told_of_management x.told) (with_terminal x.now l)) joined-there
 
   here : of_network c (tei_assign tei) l ≡ on_line
   here = ap with_course (joined c.reading tei c.terminals some)

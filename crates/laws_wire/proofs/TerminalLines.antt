@@ -29,8 +29,6 @@ use Rattle.model_teis.specs.network.Words as tei_words
 use Rattle.model_teis.specs.terminal.Events as terminals
 unfoldable use Rattle.model_teis.specs.terminal.Events.{course as terminal_course}
 use Rattle.model_teis.specs.declared.terminal.messages.Message.TheVariants as own_sent
-use Rattle.model_teis.specs.declared.terminal.told.News.TheVariants as news
-use Rattle.model_teis.specs.declared.terminal.told.T202Order.TheVariants as t202
 use Rattle.model_teis.specs.declared.terminal.procedure.Procedure.TheVariants.{Asking}
 use Rattle.model_teis.specs.terminal.Machine as terminals_machine
 use Rattle.model_teis.specs.terminal.Messages as own_messages
@@ -41,7 +39,7 @@ use Rattle.laws_line.specs.Served.{HasNoMessage}
 use Rattle.laws_line.proofs.Draining.{no-message-taken, same-after}
 use Rattle.model_bits.specs.declared.heard.Cause.TheVariants.{Unserved}
 use Rattle.model_line.specs.Event.{dropped}
-use Rattle.model_line.specs.Effect.{at_management, at_none, at_terminal, of_management, of_network, of_terminal, of_terminal_if, at_a_terminal, told_of_terminal, with_opened}
+use Rattle.model_line.specs.Effect.{at_management, at_none, at_terminal, of_management, of_network, of_terminal, of_terminal_if, at_a_terminal, with_opened}
 use Rattle.model_line.specs.Line.{is_at, is_terminal, seed_of, terminal_in, with_terminal}
 use Rattle.model_line.specs.Machine.{unless_refused, unless_refused_told}
 use Rattle.model_line.specs.Refusal.{refusal}
@@ -117,7 +115,7 @@ gave_it ri d = record (assigning ri d) { management = record (assigning ri d).ma
 -- ---- the terminal asks
 
 abbrev by_course : Config → terminal_words.Course → Line → Effect
-by_course c x l = of_change c x.told.change (told_of_terminal x.told) (with_terminal x.now l)
+by_course c x l = of_change c x.told.change (told_of_management x.told) (with_terminal x.now l)
 
 module _ (c : Config) (own : is_terminal c ≡ true) (ranged : IsInRange c) where
   some : 1 ≤ c.terminals
@@ -208,7 +206,7 @@ module _ (reading : Reading) (ri n : ℕ) (some : 1 ≤ n) where
     abbrev taken_course : terminal_words.Course
     taken_course = record {
       now = record { places = first n; number = number; procedure = None; waiting = [] };
-      told = record { news = Some (news.Assigned 64); change = Some (Gained 64 0); order = Some t202.Stop; unserved = false };
+      told = record { notes = notes.Assigned 64 ∷ []; change = Some (Gained 64 0); orders = orders.Stop T202 ∷ []; lost = 0; unserved = false };
     }
 
     takes : (x : ℕ) → x ≡ ri → cond (ri == x) (terminal_rows.take_tei 64) terminal_words.unserved (terminal_words.begun asking) ≡ taken_course

@@ -17,7 +17,7 @@ use Rattle.model_link.specs.Machine as links
 use Rattle.model_link.specs.Requests.{serves}
 use Rattle.model_link.specs.Told.{Given}
 use Rattle.model_line.specs.declared.config.Config.{Config}
-use Rattle.model_line.specs.Effect.{Aim, at_none, at_link, at_management, at_terminal, at_units, at_no_link, Effect, of_link, of_change, of_network, of_terminal, of_terminal_if, of_aim, at_a_terminal, told_of_link, told_of_management, told_of_terminal, without_units}
+use Rattle.model_line.specs.Effect.{Aim, at_none, at_link, at_management, at_terminal, at_units, at_no_link, Effect, of_link, of_change, of_network, of_terminal, of_terminal_if, of_aim, at_a_terminal, told_of_link, told_of_management, without_units}
 use Rattle.model_line.specs.Event.{Event, hears, expiry, request, next, Answer, LineTold, told, gave}
 use Rattle.model_line.specs.Line.{Line, link_number, link_at, link_in, link_of, place_in, terms, terms_at, is_terminal, terminal_in, with_terminal}
 use Rattle.model_line.specs.Taken.{Taken, with_message, with_own_message, unit_taken, with_given_frame, link_taken, first_taken, round, taken, next_of, line_of}
@@ -121,7 +121,7 @@ module _ (c : Config) where
 
   terminal-same : (e : terminals.Event) (l : Line) (ys : List Link) → AreAlike l.links ys → SameEffects (of_terminal c e l) (of_terminal c e (with_links ys l))
   terminal-same e l ys alike =
-      change-same (terminals.told e (terminal_in l)).change (told_of_terminal (terminals.told e (terminal_in l))) (with_terminal (terminals.after e (terminal_in l)) l) ys alike
+      change-same (terminals.told e (terminal_in l)).change (told_of_management (terminals.told e (terminal_in l))) (with_terminal (terminals.after e (terminal_in l)) l) ys alike
 
   terminal-if : (o : Option terminals.Event) (l : Line) (ys : List Link) → AreAlike l.links ys → SameEffects (of_terminal_if c o l) (of_terminal_if c o (with_links ys l))
   terminal-if None l ys alike = record { told = refl; rest = refl; links = alike }

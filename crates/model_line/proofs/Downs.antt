@@ -1,15 +1,10 @@
 -- What comes of it that a line is down.
-use Rattle.model_line.proofs.Vocabulary.{◌≡◌, Bool, true, false, cond, length, List, [], ◌++◌, Option, None, option_map, replicate, sym, subst, arith, All-nil, Config, nothing, Effect, Order, order_of, Procedure, at_no_link, of_aim, of_network, of_terminal, without_units, Line, Own, is_terminal, Management, stop_of, down_gives_up, IsOfSide, IsSound, IsUnitData, tei_down}
+use Rattle.model_line.proofs.Vocabulary.{◌≡◌, Bool, true, false, cond, length, List, [], ◌++◌, None, replicate, sym, subst, arith, All-nil, Config, nothing, Effect, Order, at_no_link, of_aim, of_network, of_terminal, without_units, Line, Own, is_terminal, Management, stop_of, down_gives_up, IsOfSide, IsSound, IsUnitData, tei_down}
 use Rattle.model_line.proofs.Vocabulary.{terminal_down}
-use Rattle.std.specs.Prelude.{option_to_list}
-use Rattle.model_teis.specs.terminal.Words as terminals
+use Rattle.model_teis.specs.terminal.Words.{stop_of as stop_202}
 use Rattle.model_teis.proofs.OfTerminal.GivenUp.{given_up as terminal_given_up}
 use Rattle.model_line.proofs.Checks.{still-unused}
 use Rattle.model_line.proofs.SoundParts.{with_units}
-
--- T202 stops, if it runs.
-abbrev pub stop_202 : Option Procedure → List Order
-stop_202 o = option_to_list (option_map order_of (terminals.stop_of o))
 
 -- The effect: no unit data, no message, no check, none that is due, and no procedure are left, and T201 or T202 stops.
 abbrev pub given_up : Line → Effect

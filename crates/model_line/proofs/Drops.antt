@@ -1,6 +1,6 @@
 -- What is dropped changes nothing, and costs nothing.
 use Rattle.model_line.proofs.Vocabulary.{arith, ◌≡◌, ℕ, Bool, true, false, cond, Option, Some, None, IsSome, refl, sym, ap, ◌∙◌, unwrap_or, set-get_or, none-some, Cause, Unserved, Service, fresh, Config, hears, told, may_send, cause_in, Line, link_number, link_in, with_link, terms, aim_of_heard, Effect, unserved_cause, told_of_link, of_link, of_change, of_management, of_network, of_terminal}
-use Rattle.model_line.proofs.Vocabulary.{of_terminal_if, at_a_terminal, is_terminal, terminal_in, with_terminal, told_of_terminal, LineTold, Change, Gained, Left, Terminal, TerminalEvent, TerminalTold, terminal_after, terminal_told, of_aim, unserved_leaves, LinkReceived, link_received, link_told}
+use Rattle.model_line.proofs.Vocabulary.{of_terminal_if, at_a_terminal, is_terminal, terminal_in, with_terminal, told_of_management, LineTold, Change, Gained, Left, Terminal, TerminalEvent, TeiTold, terminal_after, terminal_told, of_aim, unserved_leaves, LinkReceived, link_received, link_told}
 use Rattle.model_line.proofs.Vocabulary.{link_told_of, TeiEvent, tei_message, StreamEvent}
 use Rattle.model_teis.proofs.OfNetwork.LawLemmas as tei_lemmas
 use Rattle.model_teis.proofs.OfTerminal.Told.{unserved_changes_nothing}
@@ -41,10 +41,10 @@ its_cause c (Some (Left tei place)) t l = refl
 terminal_leaves : (c : Config) (event : TerminalEvent) (l : Line) → Leaves l (of_terminal c event l)
 terminal_leaves c event l cause h =
     let t = terminal_told event (terminal_in l) in
-    let is = unserved_is t.unserved cause (sym (its_cause c t.change (told_of_terminal t) (with_terminal (terminal_after event (terminal_in l)) l)) ∙ h) in
+    let is = unserved_is t.unserved cause (sym (its_cause c t.change (told_of_management t) (with_terminal (terminal_after event (terminal_in l)) l)) ∙ h) in
     let same = unserved_changes_nothing event (terminal_in l) is.0 in
     let whole : of_terminal c event l ≡ record { line = l; told = dropped Unserved } =
-    ap (λ (t : TerminalTold). of_change c t.change (told_of_terminal t) (with_terminal (terminal_after event (terminal_in l)) l)) same.1
+    ap (λ (t : TeiTold). of_change c t.change (told_of_management t) (with_terminal (terminal_after event (terminal_in l)) l)) same.1
     ∙ ap (λ (m : Terminal). record { line = with_terminal m l; told = dropped Unserved }) same.0 in
     (ap (λ (out : Effect). out.told) whole ∙ ap dropped is.1, ap (λ (out : Effect). out.line) whole)
 

@@ -1,7 +1,7 @@
 -- By how much an event raises what a line sends and may still send.
 use Rattle.model_line.proofs.Vocabulary.{◌≡◌, ℕ, ◌+◌, ◌*◌, ◌≤◌, Bool, true, false, max, Option, Some, None, is_some, refl, sym, subst, ap, cond, arith, Service, Refusal, T200, T203, LinkTimer, Management, expire_check, Config, Event, hears, expiry, request, one, may_send, rejects_aimed, is_accepted, is_given, at_timer, aim_of_expiry, runs_at, Rises, Line, place_in, link_in, terms, after, answer}
 use Rattle.model_line.proofs.Vocabulary.{unless_refused}
-use Rattle.model_line.proofs.Vocabulary.{unless_refused_told, aim_of_heard, at_management, at_terminal, is_terminal, of_change, of_management, of_network, of_terminal, of_terminal_if, told_of_terminal, with_terminal, of_aim, refusal, Request, aim_of_request, IsInRange, IsSound, TeiEvent, Procedure, terminal_expiry, tei_refusal, tei_course, tei_expiry}
+use Rattle.model_line.proofs.Vocabulary.{unless_refused_told, aim_of_heard, at_management, at_terminal, is_terminal, of_change, of_management, of_network, of_terminal, of_terminal_if, told_of_management, with_terminal, of_aim, refusal, Request, aim_of_request, IsInRange, IsSound, TeiEvent, Procedure, terminal_expiry, tei_refusal, tei_course, tei_expiry}
 use Rattle.model_link.specs.Requests as requests
 use Rattle.model_link.specs.declared.timers.LinkTimer.TheVariants as link_timer
 use Rattle.model_teis.specs.network.Words.{begun}
@@ -43,7 +43,7 @@ module _ (c : Config) (ranged : IsInRange c) (l : Line) (s : IsSound c l) where
     where
       go : (o : Option Procedure) → l.own.procedure ≡ o → may_send c (of_terminal c terminal_expiry l).line ≤ may_send c l + (max c.k c.k16 + 1) * one (is_some o)
       go None e =
-          subst (λ (course : Course). may_send c (of_change c course.told.change (told_of_terminal course.told) (with_terminal course.now l)).line ≤ may_send c l + (max c.k c.k16 + 1) * 0)
+          subst (λ (course : Course). may_send c (of_change c course.told.change (told_of_management course.told) (with_terminal course.now l)).line ≤ may_send c l + (max c.k c.k16 + 1) * 0)
           (sym (idle_course c l s e)) (omega arith)
       go (Some procedure) e = omega (arith, aim_rises true (sends c ranged) l (at_terminal terminal_expiry) ranged s tt)
 

@@ -1,9 +1,8 @@
 -- What every step of TEI management is, of whatever side: the walk over both tables is made once here.
-use Rattle.model_line.proofs.Vocabulary.{◌≡◌, ℕ, ◌+◌, ◌≤◌, Bool, true, false, cond, is_some, List, length, max, Option, Some, None, IfSome, option_map, refl, sym, subst, ap, ◌∙◌, arith, none-some, length-set, replicate, Places, Gained, Left, Reading, Service, Order, T201, T202, LinkTimer, obeyed, Follows, Moves, most_heard, Change, Management, tei_may_send, Cause, Unserved, IsSoundTable}
-use Rattle.model_line.proofs.Vocabulary.{told_brief, t201_follows, expired_t201_follows}
-use Rattle.model_line.proofs.Vocabulary.{Config, Line, LineTold, Own, Effect, nothing, is_terminal, terminal_in, of_change, of_management, of_network, of_terminal, of_terminal_if, at_a_terminal, change_at_terminal, change_if, change_of, with_terminal, note_of, told_of_management, told_of_terminal, order_of, unserved_cause, IsSound, IsOfSide, IsUnused, TeiEvent, tei_told, tei_after}
-use Rattle.model_line.proofs.Vocabulary.{Terminal, TerminalEvent, TerminalTold, T202Order, terminal_told, terminal_after, terminal_course}
-use Rattle.std.specs.Prelude.{option_to_list}
+use Rattle.model_line.proofs.Vocabulary.{◌≡◌, ℕ, ◌+◌, ◌≤◌, Bool, true, false, cond, is_some, List, length, max, Option, Some, None, IfSome, refl, sym, subst, ap, ◌∙◌, arith, none-some, length-set, replicate, Places, Gained, Left, Reading, Service, Order, T201, T202, LinkTimer, obeyed, Follows, Moves, most_heard, Change, Management, tei_may_send, Cause, Unserved, IsSoundTable}
+use Rattle.model_line.proofs.Vocabulary.{told_brief, own_brief, t201_follows, expired_t201_follows}
+use Rattle.model_line.proofs.Vocabulary.{Config, Line, LineTold, Own, Effect, nothing, is_terminal, terminal_in, of_change, of_management, of_network, of_terminal, of_terminal_if, at_a_terminal, change_at_terminal, change_if, change_of, with_terminal, told_of_management, unserved_cause, IsSound, IsOfSide, IsUnused, TeiEvent, tei_told, tei_after}
+use Rattle.model_line.proofs.Vocabulary.{Terminal, TerminalEvent, TeiTold, terminal_told, terminal_after, terminal_course}
 use Rattle.lapd_frame.specs.Readings.{by_reading}
 use Rattle.model_teis.specs.network.Laws as tei_laws
 use Rattle.model_teis.specs.network.Sound as tei
@@ -14,7 +13,6 @@ use Rattle.model_teis.specs.terminal.Events as terminals
 use Rattle.model_teis.specs.terminal.Laws as terminal_laws
 use Rattle.model_teis.specs.terminal.Sound as terminal
 use Rattle.model_teis.specs.terminal.Words.{Course, begun}
-use Rattle.model_teis.specs.declared.terminal.told.T202Order.TheVariants as starts
 use Rattle.model_teis.specs.terminal.Rows.{expire_procedure}
 use Rattle.model_teis.proofs.OfTerminal.Rising.{few_more_wait}
 use Rattle.model_teis.proofs.OfTerminal.Served.{leads}
@@ -75,26 +73,17 @@ placed-201 : (before after : Bool) (orders : List Order) → Follows before orde
 placed-201 before after orders follows l = grind arith
 
 -- And of T202.
-abbrev orders_for_202 : Option T202Order → List Order
-orders_for_202 o = option_to_list (option_map order_of o)
+obeyed-202 : (before after : Bool) (orders : List Order) → terminal_laws.Follows before orders after → obeyed T202 before orders ≡ after
+obeyed-202 before after orders follows = grind arith
 
-obeyed-202 : (before after : Bool) (o : Option T202Order) → terminal_laws.Follows before o after → obeyed T202 before (orders_for_202 o) ≡ after
-obeyed-202 before after None follows = sym follows
-obeyed-202 before after (Some starts.Start) follows = sym follows
-obeyed-202 before after (Some starts.Stop) follows = sym follows
+kept-201 : (before after b : Bool) (orders : List Order) → terminal_laws.Follows before orders after → obeyed T201 b orders ≡ b
+kept-201 before after b orders follows = grind arith
 
-kept-201 : (b : Bool) (o : Option T202Order) → obeyed T201 b (orders_for_202 o) ≡ b
-kept-201 b o = grind arith
+kept-links : (before after : Bool) (orders : List Order) → terminal_laws.Follows before orders after → (k : LinkTimer) (service : Service) (tei : ℕ) (b : Bool) → obeyed (timer_of k service tei) b orders ≡ b
+kept-links before after orders follows k service tei b = grind arith
 
-kept-links : (o : Option T202Order) (k : LinkTimer) (service : Service) (tei : ℕ) (b : Bool) → obeyed (timer_of k service tei) b (orders_for_202 o) ≡ b
-kept-links o k service tei b = grind arith
-
-placed-202 : (o : Option T202Order) (l : Line) → ArePlaced l (orders_for_202 o)
-placed-202 o l = grind arith
-
-pub one_at_most : {X Y : Type 0} (f : X → Y) (o : Option X) → length (option_to_list (option_map f o)) ≤ 1
-one_at_most f None = omega arith
-one_at_most f (Some x) = omega arith
+placed-202 : (before after : Bool) (orders : List Order) → terminal_laws.Follows before orders after → (l : Line) → ArePlaced l orders
+placed-202 before after orders follows l = grind arith
 
 -- A cause is named where an event is not served.
 not_served : (b : Bool) (cause : Cause) → unserved_cause b ≡ Some cause → (b ≡ true) × (Unserved ≡ cause)
@@ -187,38 +176,39 @@ module _ (c : Config) (l : Line) (s : IsSound c l) where
   abbrev own_after : TerminalEvent → Own
   own_after e = let after = terminal_after e t in record { number = after.number; procedure = after.procedure; waiting = after.waiting }
 
-  terminal-drops : (e : TerminalEvent) (cause : Cause) → (told_of_terminal (terminal_told e t)).cause ≡ Some cause
-      → (told_of_terminal (terminal_told e t) ≡ dropped cause) × ((terminal_told e t).change ≡ None) × (management_after e ≡ l.management) × (own_after e ≡ l.own)
+  terminal-drops : (e : TerminalEvent) (cause : Cause) → (told_of_management (terminal_told e t)).cause ≡ Some cause
+      → (told_of_management (terminal_told e t) ≡ dropped cause) × ((terminal_told e t).change ≡ None) × (management_after e ≡ l.management) × (own_after e ≡ l.own)
   terminal-drops e cause h =
       let is = not_served (terminal_told e t).unserved cause h in
       let same = unserved_changes_nothing e t is.0 in (
-        ap told_of_terminal same.1 ∙ ap dropped is.1,
-        ap (λ (told : TerminalTold). told.change) same.1,
+        ap told_of_management same.1 ∙ ap dropped is.1,
+        ap (λ (told : TeiTold). told.change) same.1,
         ap (λ (now : Terminal). record l.management { places = now.places }) same.0,
         ap (λ (now : Terminal). record { number = now.number; procedure = now.procedure; waiting = now.waiting }) same.0,
       )
 
   terminal_step : is_terminal c ≡ true → (e : TerminalEvent) → terminal_laws.IsInRange e → (t201 t202 : Bool) → t201 ≡ is_some l.management.check
-      → terminal_laws.Follows t202 (terminal_told e t).order (is_some (terminal_after e t).procedure) → (more : ℕ) → terminal_laws.more_most e t ≤ more
-      → Step c l t201 t202 more (terminal_told e t).change (told_of_terminal (terminal_told e t)) (management_after e) (own_after e)
+      → terminal_laws.Follows t202 (terminal_told e t).orders (is_some (terminal_after e t).procedure) → (more : ℕ) → terminal_laws.more_most e t ≤ more
+      → Step c l t201 t202 more (terminal_told e t).change (told_of_management (terminal_told e t)) (management_after e) (own_after e)
   terminal_step is e range t201 t202 check follows more enough =
       let both = at_terminal_line is in
       let led = leads e t range both.0 in
       let unused : IsUnused (management_after e) = record { remembered = both.1.remembered; check = both.1.check; to_check = both.1.to_check ∙ ap (λ n. replicate n false) (sym (as_many l.management.places (terminal_told e t).change (terminal_after e t).places led.moves)); waiting = both.1.waiting } in
-      let order = (terminal_told e t).order in
+      let now = is_some (terminal_after e t).procedure in
+      let orders = (terminal_told e t).orders in
       record {
         moves = led.moves;
         sound = sound_unused (management_after e) led.sound.table unused;
         reading = s.reading;
         owned = subst (λ b. IsOfSide b (management_after e) (own_after e)) (sym is) (led.sound, unused);
         contents = refl;
-        few_notes = one_at_most note_of (terminal_told e t).news;
-        few_orders = one_at_most order_of order;
+        few_notes = (own_brief e t).notes;
+        few_orders = (own_brief e t).orders;
         rises = omega (arith, few_more_wait e t, enough);
-        check = kept-201 t201 order ∙ check;
-        procedure = obeyed-202 t202 (is_some (terminal_after e t).procedure) order follows;
-        links = kept-links order;
-        placed = placed-202 order;
+        check = kept-201 t202 now t201 orders follows ∙ check;
+        procedure = obeyed-202 t202 now orders follows;
+        links = kept-links t202 now orders follows;
+        placed = placed-202 t202 now orders follows;
         drops = terminal-drops e;
       }
 
@@ -238,7 +228,7 @@ module _ (c : Config) (l : Line) (s : IsSound c l) where
         → Of t201 (is_some l.own.procedure) more → P (change_if o l) (of_terminal_if c o l)
     by-own None t201 more is range check h = h None nothing l.management l.own (idle t201 (is_some l.own.procedure) more check refl)
     by-own (Some e) t201 more is range check h =
-        h (terminal_told e t).change (told_of_terminal (terminal_told e t)) (management_after e) (own_after e)
+        h (terminal_told e t).change (told_of_management (terminal_told e t)) (management_after e) (own_after e)
         (terminal_step is e range.0 t201 (is_some l.own.procedure) check (t202_follows e t) more range.1)
 
     -- a terminal has as many places as the configuration says
@@ -281,16 +271,16 @@ module _ (c : Config) (l : Line) (s : IsSound c l) where
     -- An event of a terminal's own, and its expiry.
     not_running : is_terminal c ≡ false → (t202 : Bool) → t202 ≡ is_some l.own.procedure → Of (is_some l.management.check) t202 1 → P (change_at_terminal terminals.expiry l) (of_terminal c terminals.expiry l)
     not_running net t202 procedure h =
-        subst (λ (course : Course). P course.told.change (of_change c course.told.change (told_of_terminal course.told) (with_terminal course.now l))) (sym (idle_course (at_network net).0))
+        subst (λ (course : Course). P course.told.change (of_change c course.told.change (told_of_management course.told) (with_terminal course.now l))) (sym (idle_course (at_network net).0))
         (h None nothing l.management l.own (idle (is_some l.management.check) t202 1 refl procedure))
 
     running : (e : TerminalEvent) → is_terminal c ≡ true → terminal_laws.IsInRange e → terminal_laws.more_most e t ≤ 1 → (t202 : Bool)
-        → terminal_laws.Follows t202 (terminal_told e t).order (is_some (terminal_after e t).procedure) → Of (is_some l.management.check) t202 1 → P (change_at_terminal e l) (of_terminal c e l)
+        → terminal_laws.Follows t202 (terminal_told e t).orders (is_some (terminal_after e t).procedure) → Of (is_some l.management.check) t202 1 → P (change_at_terminal e l) (of_terminal c e l)
     running e is range more t202 follows h =
-        h (terminal_told e t).change (told_of_terminal (terminal_told e t)) (management_after e) (own_after e)
+        h (terminal_told e t).change (told_of_management (terminal_told e t)) (management_after e) (own_after e)
         (terminal_step is e range (is_some l.management.check) t202 refl follows 1 more)
 
-    t202-by-side : (t202 : Bool) → terminal_laws.Follows t202 (terminal_told terminals.expiry t).order (is_some (terminal_after terminals.expiry t).procedure)
+    t202-by-side : (t202 : Bool) → terminal_laws.Follows t202 (terminal_told terminals.expiry t).orders (is_some (terminal_after terminals.expiry t).procedure)
         → (is_terminal c ≡ false → t202 ≡ is_some l.own.procedure) → Of (is_some l.management.check) t202 1 → P (change_at_terminal terminals.expiry l) (of_terminal c terminals.expiry l)
     t202-by-side t202 follows procedure h = go (is_terminal c) refl
       where

@@ -1,9 +1,8 @@
 -- An expiry starts at most one timer.
-use Rattle.model_line.proofs.Vocabulary.{◌≡◌, ℕ, ◌≤◌, true, false, cond, List, [], ◌∷◌, ◌++◌, length, Option, Some, None, refl, arith, Service, Call, Packet, Order, Start, Stop, Timer, one-start, orders_for, starts, Terms, LinkTimer, told_brief, Change, Gained, Left, Config, expiry, aim_of_expiry, orders_in, Line, link_in, terms, answer, told_of_management, told_of_terminal, of_link, of_change}
-use Rattle.model_line.proofs.Vocabulary.{of_management, of_network, of_terminal, of_terminal_if, of_aim, order_of, is_terminal, terminal_in, with_terminal, LineTold, link_expired}
+use Rattle.model_line.proofs.Vocabulary.{◌≡◌, ℕ, ◌≤◌, true, false, cond, List, [], ◌∷◌, ◌++◌, length, Option, Some, None, refl, arith, Service, Call, Packet, Order, Start, Stop, Timer, one-start, orders_for, starts, Terms, LinkTimer, told_brief, own_brief, Change, Gained, Left, Config, expiry, aim_of_expiry, orders_in, Line, link_in, terms, answer, told_of_management, of_link, of_change}
+use Rattle.model_line.proofs.Vocabulary.{of_management, of_network, of_terminal, of_terminal_if, of_aim, is_terminal, terminal_in, with_terminal, LineTold, link_expired}
 use Rattle.model_line.proofs.Vocabulary.{link_cleared, tei_told, tei_after, tei_expiry, terminal_told, terminal_after, terminal_expiry}
 use Rattle.model_link.specs.Machine as links
-use Rattle.model_line.proofs.Managed.{one_at_most}
 use Rattle.model_line.proofs.ProperAims.{expiry_aims}
 
 -- what starts nothing may stand before other orders
@@ -58,7 +57,7 @@ module _ (c : Config) where
   terminal_starts : (l : Line) → starts (of_terminal c terminal_expiry l).told.orders ≤ 1
   terminal_starts l =
       let t = terminal_told terminal_expiry (terminal_in l) in
-      change_starts t.change (told_of_terminal t) (with_terminal (terminal_after terminal_expiry (terminal_in l)) l) (one_at_most order_of t.order)
+      change_starts t.change (told_of_management t) (with_terminal (terminal_after terminal_expiry (terminal_in l)) l) (own_brief terminal_expiry (terminal_in l)).orders
 
   aim_starts : (timer : Timer) (l : Line) → starts (of_aim c (aim_of_expiry timer l) l).told.orders ≤ 1
   aim_starts timer l =

@@ -34,6 +34,7 @@ pub use Rattle.lapd_frame.specs.declared.timers.Order.TheVariants.{Start, Stop}
 pub use Rattle.lapd_frame.specs.declared.timers.Timer.{Timer}
 pub use Rattle.lapd_frame.specs.declared.timers.Timer.TheVariants.{T200, T201, T202, T203}
 pub use Rattle.model_teis.proofs.OfNetwork.Brief.{IsBrief, told_brief}
+pub use Rattle.model_teis.proofs.OfTerminal.Brief.{told_brief as own_brief}
 pub use Rattle.model_teis.proofs.OfNetwork.Followed.{expired_t201_follows, t201_follows}
 pub use Rattle.model_teis.proofs.OfNetwork.GivenUp.{down_gives_up}
 pub use Rattle.model_teis.proofs.OfNetwork.LawLemmas.{sound-after_offer, sound-empty}
@@ -51,10 +52,10 @@ pub use Rattle.model_teis.specs.declared.changes.Change.{Change}
 pub use Rattle.model_teis.specs.declared.changes.Change.TheVariants.{Gained, Left}
 pub use Rattle.model_teis.specs.terminal.Events.{Event as TerminalEvent, after as terminal_after, after_offer as terminal_after_offer, down as terminal_down, expiry as terminal_expiry, told as terminal_told}
 unfoldable pub use Rattle.model_teis.specs.terminal.Events.{course as terminal_course}
-pub use Rattle.model_teis.specs.terminal.Machine.{Terminal, TerminalTold}
+pub use Rattle.model_teis.specs.terminal.Machine.{Terminal}
+pub use Rattle.model_teis.specs.Told.{TeiTold}
 pub use Rattle.model_teis.specs.terminal.Messages.{frame_of as own_frame_of}
 pub use Rattle.model_teis.specs.declared.terminal.messages.Message.{Message as OwnMessage}
-pub use Rattle.model_teis.specs.declared.terminal.told.T202Order.{T202Order}
 pub use Rattle.model_teis.specs.declared.terminal.procedure.Procedure.{Procedure}
 pub use Rattle.model_bits.specs.Stream.{dropped, overlong, Event as StreamEvent, frame as stream_frame}
 pub use Rattle.model_bits.specs.declared.heard.Cause.{Cause}
@@ -63,7 +64,7 @@ pub use Rattle.model_line.specs.Config.{is_within}
 unfoldable pub use Rattle.model_line.specs.Config.{sapi_fault}
 pub use Rattle.model_line.specs.Counts.{hears_frame, is_accepted, is_given, brought, is_long_frame, is_pool, is_pool_full, may_send, one, rejects, rejects_aimed}
 pub use Rattle.model_line.specs.Deliveries.{arrived, arrived_aimed, delivered, delivered_at, delivered_in, is_change_at, is_data_of, restarts, restarts_aimed}
-pub use Rattle.model_line.specs.Effect.{Aim, Effect, at_a_terminal, at_link, at_management, at_no_link, at_none, at_terminal, at_units, change_at_terminal, change_if, change_of, note_of, of_aim, of_change, of_link, of_management, of_network, of_terminal, of_terminal_if, order_of, told_of_link, told_of_management, told_of_terminal, unserved_cause, without_units}
+pub use Rattle.model_line.specs.Effect.{Aim, Effect, at_a_terminal, at_link, at_management, at_no_link, at_none, at_terminal, at_units, change_at_terminal, change_if, change_of, of_aim, of_change, of_link, of_management, of_network, of_terminal, of_terminal_if, told_of_link, told_of_management, unserved_cause, without_units}
 pub use Rattle.model_line.specs.Event.{Answer, Event, LineTold, expiry, gave, hears, next, nothing, refused, request, told}
 pub use Rattle.model_line.specs.Expiry.{aim_of_expiry, at_timer, is_running, runs_at}
 pub use Rattle.model_line.specs.Laws.{FallsByNext, IsRejectHeard, Rises, cause_in, orders_in}

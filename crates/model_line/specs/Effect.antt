@@ -1,5 +1,5 @@
 -- What an event is to the parts of a line, and what comes of it.
-use Rattle.std.specs.Prelude.{ℕ, Bool, [], ◌∷◌, ◌++◌, Option, Some, None, option_map, option_to_list, if◌then◌else◌}
+use Rattle.std.specs.Prelude.{ℕ, Bool, [], ◌∷◌, ◌++◌, Option, Some, None, if◌then◌else◌}
 use Rattle.std.specs.Option.{option_or}
 use Rattle.model_bits.specs.declared.heard.Cause.{Cause}
 use Rattle.model_bits.specs.declared.heard.Cause.TheVariants.{Unserved}
@@ -10,18 +10,8 @@ use Rattle.model_link.specs.Link.{fresh}
 use Rattle.model_link.specs.Machine as links
 use Rattle.model_link.specs.Told as link_told
 use Rattle.model_teis.specs.network.Events as teis
-use Rattle.model_teis.specs.network.Machine as tei
-use Rattle.lapd_frame.specs.declared.notes.Note.{Note}
-use Rattle.lapd_frame.specs.declared.notes.Note.TheVariants as notes
-use Rattle.lapd_frame.specs.declared.timers.Order.{Order}
-use Rattle.lapd_frame.specs.declared.timers.Order.TheVariants as orders
-use Rattle.lapd_frame.specs.declared.timers.Timer.TheVariants.{T202}
 use Rattle.model_teis.specs.terminal.Events as terminals
-use Rattle.model_teis.specs.terminal.Machine.{TerminalTold}
-use Rattle.model_teis.specs.declared.terminal.told.News.{News}
-use Rattle.model_teis.specs.declared.terminal.told.News.TheVariants as news
-use Rattle.model_teis.specs.declared.terminal.told.T202Order.{T202Order}
-use Rattle.model_teis.specs.declared.terminal.told.T202Order.TheVariants as t202
+use Rattle.model_teis.specs.Told.{TeiTold}
 use Rattle.model_teis.specs.declared.changes.Change.{Change}
 use Rattle.model_teis.specs.declared.changes.Change.TheVariants.{Gained, Left}
 use Rattle.model_line.specs.declared.config.Config.{Config}
@@ -73,7 +63,7 @@ of_link c service tei place event l =
 -- An event of TEI management. A TEI that comes to the line opens its two links. One that leaves clears them, that of
 -- call control first. What they tell comes after what TEI management tells, except for the order of T201 or T202, which is
 -- the last (profile).
-abbrev pub told_of_management : tei.TeiTold → LineTold
+abbrev pub told_of_management : TeiTold → LineTold
 told_of_management t =
     record nothing { notes = t.notes; cause = unserved_cause t.unserved; orders = t.orders; lost = t.lost }
 
@@ -102,29 +92,11 @@ of_network c event l =
     let t = teis.told event l.management in
     of_change c t.change (told_of_management t) (record l { management = teis.after event l.management })
 
--- The same of a terminal. What it tells is a note at most, and an order of T202.
-abbrev pub note_of : News → Note
-note_of (news.Assigned tei) = notes.Assigned tei
-note_of (news.Removed tei) = notes.Removed tei
-note_of news.Denied = notes.Denied
-note_of news.Unassigned = notes.Unassigned
-note_of news.RemoveAll = notes.RemoveAll
-
-abbrev pub order_of : T202Order → Order
-order_of t202.Start = orders.Start T202
-order_of t202.Stop = orders.Stop T202
-
-abbrev pub told_of_terminal : TerminalTold → LineTold
-told_of_terminal t = record nothing {
-  notes = option_to_list (option_map note_of t.news);
-  cause = unserved_cause t.unserved;
-  orders = option_to_list (option_map order_of t.order);
-}
-
+-- The same of a terminal.
 abbrev pub of_terminal : Config → terminals.Event → Line → Effect
 of_terminal c event l =
     let t = terminals.told event (terminal_in l) in
-    of_change c t.change (told_of_terminal t) (with_terminal (terminals.after event (terminal_in l)) l)
+    of_change c t.change (told_of_management t) (with_terminal (terminals.after event (terminal_in l)) l)
 
 -- An event of TEI management is that of the side: of the network's, also at a trunk's end, or of a terminal. (T201 does not
 -- run at a terminal, and it neither checks nor disowns a TEI.)

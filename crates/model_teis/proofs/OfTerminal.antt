@@ -7,6 +7,7 @@ pub mod SoundWords
 mod Walk
 mod Answered
 pub mod Told
+pub mod Brief
 pub mod Numbered
 pub mod Rising
 pub mod Served

@@ -1,11 +1,12 @@
 //! What a terminal has asked the network for.
 
-ghost use Rattle.std.specs.Prelude.{◌≡◌};
+ghost use Rattle.std.specs.Prelude.{◌≡◌, option_to_list};
 ghost use Rattle.model_teis.specs.terminal.Words.{is_verified, stop_of};
 
 mod saved;
 
-use model_teis::terminal::{Procedure, T202Order};
+use lapd_frame::{Order, Timer};
+use model_teis::terminal::Procedure;
 pub(crate) use saved::{restore, save};
 
 /// Whether this TEI is verified.
@@ -19,11 +20,11 @@ pub(crate) fn is_verified(procedure: Option<Procedure>, tei: u8) -> bool
 }
 
 /// What is ordered of T202 if a procedure ends.
-pub(crate) fn stop_of(procedure: Option<Procedure>) -> Option<T202Order>
-    ensures { result ≡ stop_of procedure }
+pub(crate) fn stop_of(procedure: Option<Procedure>) -> Option<Order>
+    ensures { option_to_list result ≡ stop_of procedure }
 {
     match procedure {
-        Some(_) => Some(T202Order::Stop),
+        Some(_) => Some(Order::Stop(Timer::T202)),
         None => None,
     }
 }

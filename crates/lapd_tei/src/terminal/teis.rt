@@ -4,14 +4,14 @@ ghost use Rattle.std.specs.Prelude.{◌≡◌, ◌≤◌, ◌<◌, Some, None, g
 ghost use Rattle.model_teis.specs.terminal.Events.{message, expiry, ask, verify, assign, remove, down, refusal, after, told, offered, after_offer};
 ghost use Rattle.model_teis.specs.terminal.Machine.{fresh, place, held};
 ghost use Rattle.model_teis.specs.terminal.Messages.{type_of};
-ghost use Rattle.lapd_tei.specs.terminal.Outcome.{told_of};
+ghost use Rattle.lapd_tei.specs.Outcome.{told_of};
 
 mod saved;
 mod served;
 mod words;
 
+use crate::outcome::TeiOutcome;
 use crate::table::Table;
-use crate::terminal::outcome::TerminalOutcome;
 use crate::terminal::procedure::stop_of;
 use crate::terminal::queue::Queue;
 use crate::terminal::{heard, messages};
@@ -62,7 +62,7 @@ impl TerminalTeis {
     }
 
     /// Serves a message of the network: the information of a UI command with SAPI 63 and the group TEI.
-    pub fn message(&mut self, information: &[u8]) -> TerminalOutcome
+    pub fn message(&mut self, information: &[u8]) -> TeiOutcome
         ensures told { told_of result ≡ told (message information.now) self.old }
         ensures after { self.new ≡ after (message information.now) self.old }
     {
@@ -71,18 +71,18 @@ impl TerminalTeis {
             Some(Heard::IdentityDenied { ri }) => self.denied(ri),
             Some(Heard::IdentityCheckRequest { tei }) => self.checked(tei),
             Some(Heard::IdentityRemove { tei }) => self.removed_each(tei),
-            None => TerminalOutcome::unserved(),
+            None => TeiOutcome::unserved(),
         }
     }
 
     /// T202 has expired. If no procedure runs, T202 does not run, and nothing happens.
     #[tactic(auto, unfolding(model_teis::specs::terminal::Events::course), using(model_teis::proofs::OfTerminal::SoundWords::verified_on))]
-    pub fn expire_t202(&mut self) -> TerminalOutcome
+    pub fn expire_t202(&mut self) -> TeiOutcome
         ensures told { told_of result ≡ told expiry self.old }
         ensures after { self.new ≡ after expiry self.old }
     {
         match self.procedure {
-            None => TerminalOutcome::nothing(),
+            None => TeiOutcome::nothing(),
             Some(Procedure::Asking { attempts, .. }) => self.ask_again(attempts),
             Some(Procedure::Verifying { tei, attempts }) => self.verify_again(tei, attempts),
         }
@@ -93,7 +93,7 @@ impl TerminalTeis {
     /// # Errors
     ///
     /// `TableFull` if no place is free, otherwise `CheckRunning` if a procedure runs.
-    pub fn ask(&mut self) -> Result<TerminalOutcome, Refusal>
+    pub fn ask(&mut self) -> Result<TeiOutcome, Refusal>
         ensures told { IfOk result (λ outcome. told_of outcome ≡ told ask self.old) }
         ensures accepted { OnOk result (refusal ask self.old ≡ None) }
         ensures refused { IfErr result (λ why. refusal ask self.old ≡ Some why) }
@@ -114,7 +114,7 @@ impl TerminalTeis {
     /// # Errors
     ///
     /// `NoLink` if it is not on the line, otherwise `CheckRunning` if a procedure runs.
-    pub fn verify(&mut self, tei: u8) -> Result<TerminalOutcome, Refusal>
+    pub fn verify(&mut self, tei: u8) -> Result<TeiOutcome, Refusal>
         ensures told { IfOk result (λ outcome. told_of outcome ≡ told (verify tei) self.old) }
         ensures accepted { OnOk result (refusal (verify tei) self.old ≡ None) }
         ensures refused { IfErr result (λ why. refusal (verify tei) self.old ≡ Some why) }
@@ -135,7 +135,7 @@ impl TerminalTeis {
     /// # Errors
     ///
     /// `TeiTaken` if it is on the line, otherwise `TableFull` if no place is free.
-    pub fn assign(&mut self, tei: u8) -> Result<TerminalOutcome, Refusal>
+    pub fn assign(&mut self, tei: u8) -> Result<TeiOutcome, Refusal>
         requires { tei ≤ 126 }
         ensures told { IfOk result (λ outcome. told_of outcome ≡ told (assign tei) self.old) }
         ensures accepted { OnOk result (refusal (assign tei) self.old ≡ None) }
@@ -150,7 +150,7 @@ impl TerminalTeis {
             return Err(Refusal::TableFull);
         };
         self.join(tei, place);
-        Ok(TerminalOutcome::gained(tei, place))
+        Ok(TeiOutcome::gained(tei, place))
     }
 
     /// Takes a TEI off the line. Nobody is told.
@@ -158,7 +158,7 @@ impl TerminalTeis {
     /// # Errors
     ///
     /// `NoLink` if it is not on the line.
-    pub fn remove(&mut self, tei: u8) -> Result<TerminalOutcome, Refusal>
+    pub fn remove(&mut self, tei: u8) -> Result<TeiOutcome, Refusal>
         ensures told { IfOk result (λ outcome. told_of outcome ≡ told (remove tei) self.old) }
         ensures accepted { OnOk result (refusal (remove tei) self.old ≡ None) }
         ensures refused { IfErr result (λ why. refusal (remove tei) self.old ≡ Some why) }
@@ -174,11 +174,11 @@ impl TerminalTeis {
     /// The line is down (Q.921 annex B, persistent deactivation): the messages that wait are given up, and a procedure
     /// that runs ends without a result. The TEIs stay on the line.
     #[tactic(auto, unfolding(model_teis::specs::terminal::Events::course), using(model_teis::proofs::OfTerminal::SoundWords::down_is, model_teis::proofs::OfTerminal::GivenUp::given_up))]
-    pub fn give_up(&mut self) -> TerminalOutcome
+    pub fn give_up(&mut self) -> TeiOutcome
         ensures told { told_of result ≡ told down self.old }
         ensures after { self.new ≡ after down self.old }
     {
-        let outcome = TerminalOutcome::ordered(stop_of(self.procedure));
+        let outcome = TeiOutcome::ordered(stop_of(self.procedure));
         self.procedure = None;
         self.queue.clear();
         outcome

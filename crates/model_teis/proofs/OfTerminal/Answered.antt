@@ -1,27 +1,31 @@
 -- What the answers to a check tell, however many there are.
-use Rattle.model_teis.proofs.OfTerminal.Vocabulary.{◌≡◌, ℕ, true, false, cond, is_some, List, [], ◌∷◌, AllByRecursion, All, recursion_from_All, None, refl, sym, subst, fold, is_on, Terminal, IsSound, is_verified}
+use Rattle.model_teis.proofs.OfTerminal.Vocabulary.{◌≡◌, ℕ, true, false, cond, is_some, List, [], ◌∷◌, length, ◌≤◌, AllByRecursion, All, recursion_from_All, None, refl, sym, subst, arith, fold, is_on, Terminal, IsSound, is_verified}
 use Rattle.model_teis.proofs.OfTerminal.SoundWords.{sound_ended, sound_responded}
 use Rattle.model_teis.specs.Steps.{nothing_happens}
 use Rattle.model_teis.specs.terminal.Words.{Course, begun, end_procedure, end_verifying_of, is_answered, respond, send_response}
 use Rattle.model_teis.specs.terminal.Rows.{answer, answered}
 use Rattle.model_teis.specs.terminal.Laws.{Follows}
 
--- Orders follow the procedure, no TEI comes or leaves, and the message is served.
+-- Orders follow the procedure, at most one is told and no note, no TEI comes or leaves, no message is lost, and the message is
+-- served.
 pub record Answers (m : Terminal) (c : Course) : Type 0 where
-  pub follows : Follows (is_some m.procedure) c.told.order (is_some c.now.procedure)
+  pub follows : Follows (is_some m.procedure) c.told.orders (is_some c.now.procedure)
+  pub notes : c.told.notes ≡ []
+  pub orders : length c.told.orders ≤ 1
   pub change : c.told.change ≡ None
+  pub lost : c.told.lost ≡ 0
   pub served : c.told.unserved ≡ false
 
 -- verifying of the TEI ends, or a response is sent
 ends : (m : Terminal) (tei : ℕ) (c : Course) → Answers m c → Answers m (end_verifying_of tei c)
 ends m tei c h =
     elim (is_verified tei c.now.procedure) as (λ b. Answers m ((cond b end_procedure nothing_happens) c)) [
-      | true ↦ record { follows = refl; change = h.change; served = h.served }
+      | true ↦ record { follows = refl; notes = h.notes; orders = omega arith; change = h.change; lost = h.lost; served = h.served }
       | false ↦ h
     ]
 
 sends : (m : Terminal) (tei : ℕ) (c : Course) → Answers m c → Answers m (send_response tei c)
-sends m tei c h = record { follows = h.follows; change = h.change; served = h.served }
+sends m tei c h = record { follows = h.follows; notes = h.notes; orders = h.orders; change = h.change; lost = h.lost; served = h.served }
 
 responds : (m : Terminal) (tei : ℕ) (c : Course) → Answers m c → Answers m (respond tei c)
 responds m tei c h =
@@ -35,7 +39,7 @@ each m [] c h = h
 each m (tei ∷ teis) c h = each m teis (answer tei c) (responds m tei (end_verifying_of tei c) (ends m tei c h))
 
 pub answers_each : (m : Terminal) (teis : List ℕ) → Answers m (fold answered (begun m) teis)
-answers_each m teis = each m teis (begun m) (record { follows = refl; change = refl; served = refl })
+answers_each m teis = each m teis (begun m) (record { follows = refl; notes = refl; orders = omega arith; change = refl; lost = refl; served = refl })
 
 -- Things stay sound, and the table stays.
 pub record Stays (m : Terminal) (c : Course) : Type 0 where

@@ -8,7 +8,7 @@ use Rattle.model_teis.specs.terminal.Laws.{IsGivenUp}
 unfoldable use Rattle.model_teis.specs.terminal.Events.{course}
 
 abbrev Leaves : Terminal → Option Procedure → Course → Type 0
-Leaves m o c = (c.now ≡ record m { procedure = None; waiting = [] }) × (c.told ≡ record nothing { order = stop_of o })
+Leaves m o c = (c.now ≡ record m { procedure = None; waiting = [] }) × (c.told ≡ record nothing { orders = stop_of o })
 
 ends : (m : Terminal) (o : Option Procedure) → m.procedure ≡ o → Leaves m o ((end_if_any o then withdraw_all) (begun m))
 ends m None e = grind arith

@@ -8,7 +8,6 @@ use Rattle.model_teis.specs.terminal.Words.{Course, begun, ask, end_procedure, e
 use Rattle.model_teis.specs.terminal.Rows.{answer, answered, end_if_any, take_off, withdraw_all}
 use Rattle.model_teis.specs.terminal.Events.{Event}
 use Rattle.model_teis.specs.terminal.Laws.{GoesOn, IsKnown, NumbersGoOn, has_number}
-unfoldable use Rattle.model_teis.specs.terminal.Events.{course}
 unfoldable use Rattle.model_teis.specs.terminal.Numbers.{number_after}
 
 same_read : (waiting : List Message) (k : ℕ) (d : Message) → k < length waiting → get_or waiting k (get_or waiting k d) ≡ get_or waiting k d

@@ -8,7 +8,6 @@ use Rattle.model_teis.specs.terminal.Words.{Course, begun, end_procedure, end_ve
 use Rattle.model_teis.specs.terminal.Rows.{answer, answered, end_if_any, take_off, withdraw_all}
 use Rattle.model_teis.specs.terminal.Events.{Event, message, expiry, ask, verify, assign, remove, down}
 use Rattle.model_teis.specs.terminal.Laws.{FewMoreWait, more_most}
-unfoldable use Rattle.model_teis.specs.terminal.Events.{course}
 
 fewer : (keep : Message → Bool) (waiting : List Message) → length (filter keep waiting) ≤ length waiting
 fewer keep waiting = omega (arith, length-filter keep waiting, count_by-le-length keep waiting)

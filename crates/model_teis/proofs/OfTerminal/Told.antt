@@ -5,14 +5,14 @@ use Rattle.model_teis.specs.Steps.{◌then◌, nothing_happens}
 use Rattle.model_teis.specs.terminal.Words.{Course, begun, end_procedure, unserved, leave, note, ask, verify}
 use Rattle.model_teis.specs.terminal.Rows.{answered, end_if_any, expire_procedure, give_up_asking, withdraw_all, removed, take_off}
 use Rattle.model_teis.specs.terminal.Events.{Event}
-use Rattle.model_teis.specs.terminal.Machine.{Removed}
+use Rattle.lapd_frame.specs.declared.notes.Note.TheVariants.{Removed}
 use Rattle.model_teis.specs.terminal.Laws.{Follows, IsGiven, T202Follows, ExpiredT202Follows, UnservedChangesNothing, NoneIsTaken}
 use Rattle.model_teis.proofs.OfTerminal.Walk.{OfEvents, of_event}
 use Rattle.model_teis.proofs.OfTerminal.Answered.{answers_each}
 unfoldable use Rattle.model_teis.specs.terminal.Events.{course}
 
 pub record Tells (e : Event) (m : Terminal) (c : Course) : Type 0 where
-  pub follows : Follows (is_some m.procedure) c.told.order (is_some c.now.procedure)
+  pub follows : Follows (is_some m.procedure) c.told.orders (is_some c.now.procedure)
   pub given : IsGiven e m c.told.change
   pub idle : c.told.unserved ≡ true → c ≡ unserved (begun m)
 
@@ -36,10 +36,10 @@ removed_by e m tei =
     ]
 
 -- verifying ends if the TEI that is verified is removed
-removed_follows : (m : Terminal) (tei attempts : ℕ) → m.procedure ≡ Some (Verifying tei attempts) → Follows false (removed tei (begun m)).told.order (is_some (removed tei (begun m)).now.procedure)
+removed_follows : (m : Terminal) (tei attempts : ℕ) → m.procedure ≡ Some (Verifying tei attempts) → Follows false (removed tei (begun m)).told.orders (is_some (removed tei (begun m)).now.procedure)
 removed_follows m tei attempts is =
     let ends : is_verified tei m.procedure ≡ true = ap (is_verified tei) is ∙ same_itself tei in
-    subst (λ b. Follows false (note (Removed tei) (leave tei ((cond b end_procedure nothing_happens) (begun m)))).told.order (is_some (note (Removed tei) (leave tei ((cond b end_procedure nothing_happens) (begun m)))).now.procedure)) (sym ends) refl
+    subst (λ b. Follows false (note (Removed tei) (leave tei ((cond b end_procedure nothing_happens) (begun m)))).told.orders (is_some (note (Removed tei) (leave tei ((cond b end_procedure nothing_happens) (begun m)))).now.procedure)) (sym ends) refl
 
 down_by : (e : Event) (m : Terminal) (o : Option Procedure) → m.procedure ≡ o → Tells e m ((end_if_any o then withdraw_all) (begun m))
 down_by e m None is = record { follows = refl; given = tt; idle = λ is. absurd (false≢true is) }
@@ -77,15 +77,15 @@ pub tells : (e : Event) (m : Terminal) → Tells e m (course e m)
 tells e m = of_event e m (Tells e m) (ways e m)
 
 -- T202 has expired: whether it ran before says nothing if a procedure runs
-expired : (m : Terminal) (o : Option Procedure) → m.procedure ≡ o → Follows false (expire_procedure o (begun m)).told.order (is_some (expire_procedure o (begun m)).now.procedure)
+expired : (m : Terminal) (o : Option Procedure) → m.procedure ≡ o → Follows false (expire_procedure o (begun m)).told.orders (is_some (expire_procedure o (begun m)).now.procedure)
 expired m None is = ap is_some is
 expired m (Some (Asking ri attempts)) is =
-    elim (nat_lt attempts 3) as (λ b. Follows false ((cond b (ask (attempts + 1)) give_up_asking) (begun m)).told.order (is_some ((cond b (ask (attempts + 1)) give_up_asking) (begun m)).now.procedure)) [
+    elim (nat_lt attempts 3) as (λ b. Follows false ((cond b (ask (attempts + 1)) give_up_asking) (begun m)).told.orders (is_some ((cond b (ask (attempts + 1)) give_up_asking) (begun m)).now.procedure)) [
       | true ↦ refl
       | false ↦ refl
     ]
 expired m (Some (Verifying tei attempts)) is =
-    elim (nat_lt attempts 2) as (λ b. Follows false ((cond b (verify tei (attempts + 1)) (removed tei)) (begun m)).told.order (is_some ((cond b (verify tei (attempts + 1)) (removed tei)) (begun m)).now.procedure)) [
+    elim (nat_lt attempts 2) as (λ b. Follows false ((cond b (verify tei (attempts + 1)) (removed tei)) (begun m)).told.orders (is_some ((cond b (verify tei (attempts + 1)) (removed tei)) (begun m)).now.procedure)) [
       | true ↦ refl
       | false ↦ removed_follows m tei attempts is
     ]

@@ -4,7 +4,7 @@ use Rattle.model_teis.proofs.OfTerminal.SoundWords.{named_on, named_few}
 use Rattle.lapd_frame.specs.declared.refusals.Refusal.{Refusal}
 use Rattle.lapd_frame.specs.declared.refusals.Refusal.TheVariants.{NoLink, TeiTaken, TableFull, CheckRunning}
 use Rattle.model_teis.specs.Refused.{refusal_if}
-use Rattle.model_teis.specs.terminal.Machine.{Assigned, Denied, RemoveAll}
+use Rattle.lapd_frame.specs.declared.notes.Note.TheVariants.{Assigned, Denied, RemoveAll}
 use Rattle.model_teis.specs.terminal.Messages.{Heard, IdentityAssigned, IdentityDenied, IdentityCheckRequest, IdentityRemove, heard_in}
 use Rattle.model_teis.specs.Steps.{◌then◌}
 use Rattle.model_teis.specs.terminal.Words.{Course, Step, begun, note, unserved, ask, verify, end_procedure, join}

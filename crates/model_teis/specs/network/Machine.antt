@@ -1,8 +1,6 @@
--- TEI management of one line: its state, and what is told of an event (Q.921 clause 5.3).
+-- TEI management of one line: its state (Q.921 clause 5.3).
 use Rattle.std.specs.Prelude.{ℕ, ◌+◌, ◌*◌, Bool, false, List, [], length, sum_by, replicate, Option, None, if◌then◌else◌}
 use Rattle.std.specs.List.{position, list_any}
-use Rattle.lapd_frame.specs.declared.notes.Note.{Note}
-use Rattle.lapd_frame.specs.declared.timers.Order.{Order}
 use Rattle.lapd_frame.specs.declared.readings.Reading.{Reading}
 use Rattle.model_teis.specs.network.Messages.{Message}
 use Rattle.model_teis.specs.Table.{Places, place_of, tei_at}
@@ -12,6 +10,7 @@ pub use Rattle.model_teis.specs.declared.network.check.Period.{Period}
 pub use Rattle.model_teis.specs.declared.network.check.Period.TheVariants.{First, Second}
 pub use Rattle.model_teis.specs.declared.changes.Change.{Change}
 pub use Rattle.model_teis.specs.declared.changes.Change.TheVariants.{Gained, Left}
+pub use Rattle.model_teis.specs.Told.{TeiTold, nothing}
 
 pub record Management : Type 0 where
   -- how the rows of the table are read, at all times the same
@@ -72,15 +71,3 @@ may_send m = length m.waiting + checks_due m
 
 abbrev pub held : Management → ℕ
 held m = 8 * length m.waiting + 3 * length m.remembered + (if is_check_due m then 1 else 0)
-
--- What is told of an event: notes; whether a TEI came to the line or left it; what is ordered of T201; how many
--- messages were lost, as they found no room; and whether the event is one that is not served.
-pub record TeiTold : Type 0 where
-  pub notes : List Note
-  pub change : Option Change
-  pub orders : List Order
-  pub lost : ℕ
-  pub unserved : Bool
-
-abbrev pub nothing : TeiTold
-nothing = record { notes = []; change = None; orders = []; lost = 0; unserved = false }

@@ -5,7 +5,7 @@ use Rattle.lapd_frame.specs.declared.refusals.Refusal.TheVariants.{NoLink, TeiTa
 use Rattle.model_teis.specs.Refused.{refusal_if}
 use Rattle.model_teis.specs.Table.{is_on, free_place}
 use Rattle.model_teis.specs.terminal.Messages.{heard_in, frame_of}
-use Rattle.model_teis.specs.terminal.Machine.{Terminal, TerminalTold}
+use Rattle.model_teis.specs.terminal.Machine.{Terminal, TeiTold}
 use Rattle.model_teis.specs.terminal.Words.{Course, begun, Step, ask as ask_first, verify as verify_first}
 use Rattle.model_teis.specs.terminal.Rows.{serve, expire, put_on, take_off, give_up}
 
@@ -51,7 +51,7 @@ course e m = unless_refused (refusal e m) (step e) m
 abbrev pub after : Event → Terminal → Terminal
 after e m = (course e m).now
 
-abbrev pub told : Event → Terminal → TerminalTold
+abbrev pub told : Event → Terminal → TeiTold
 told e m = (course e m).told
 
 -- A pull takes the message that has waited longest.

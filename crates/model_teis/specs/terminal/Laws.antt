@@ -1,12 +1,15 @@
 -- What holds of TEI management of a terminal, beside what its rows say.
 use Rattle.std.specs.Prelude.{◌≡◌, ℕ, ◌+◌, ◌≤◌, ◌<◌, ◌⊎◌, Bool, true, false, is_some, List, [], ◌∷◌, length, max, get_or, All, Option, Some, None}
 use Rattle.std.specs.List.{count_by}
+use Rattle.lapd_frame.specs.declared.timers.Order.{Order}
+use Rattle.lapd_frame.specs.declared.timers.Order.TheVariants.{Start, Stop}
+use Rattle.lapd_frame.specs.declared.timers.Timer.TheVariants.{T202}
 use Rattle.model_teis.specs.Changes.{Moves}
 use Rattle.model_teis.specs.declared.changes.Change.{Change}
 use Rattle.model_teis.specs.declared.changes.Change.TheVariants.{Gained, Left}
 use Rattle.model_teis.specs.terminal.Messages.{Message, IdentityRequest, IdentityCheckResponse, IdentityVerify, IdentityAssigned, heard_in}
 use Rattle.model_teis.specs.terminal.Numbers.{number_after}
-use Rattle.model_teis.specs.terminal.Machine.{Terminal, Asking, T202Order, Start, Stop, fresh, nothing}
+use Rattle.model_teis.specs.terminal.Machine.{Terminal, Asking, fresh, nothing}
 use Rattle.model_teis.specs.terminal.Events.{Event, message, expiry, ask, verify, assign, remove, down, after, told, after_offer}
 use Rattle.model_teis.specs.Table.{IsAt}
 use Rattle.model_teis.specs.terminal.Sound.{IsSound}
@@ -90,18 +93,19 @@ EachWasGiven = (terminals seed : ℕ) (acts : List Act) (tei place : ℕ) → te
     → IsAt (after_acts acts (fresh terminals seed)).places place tei → WasGiven acts (fresh terminals seed) tei place
 
 -- T202 runs while a procedure does, and orders say so to a caller: after a Start one runs, after a Stop none does, and
--- without an order one runs if it ran before.
-abbrev pub Follows : Bool → Option T202Order → Bool → Type 0
-Follows before None after = after ≡ before
-Follows before (Some Start) after = after ≡ true
-Follows before (Some Stop) after = after ≡ false
+-- without an order one runs if it ran before. No other timer is ordered, and none twice.
+abbrev pub Follows : Bool → List Order → Bool → Type 0
+Follows before [] after = after ≡ before
+Follows before (Start T202 ∷ []) after = after ≡ true
+Follows before (Stop T202 ∷ []) after = after ≡ false
+Follows before others after = ⊥
 
 abbrev pub T202Follows : Type 0
-T202Follows = (e : Event) (m : Terminal) → Follows (is_some m.procedure) (told e m).order (is_some (after e m).procedure)
+T202Follows = (e : Event) (m : Terminal) → Follows (is_some m.procedure) (told e m).orders (is_some (after e m).procedure)
 
 -- After its own expiry, too, when the caller's runs no more when the event begins.
 abbrev pub ExpiredT202Follows : Type 0
-ExpiredT202Follows = (m : Terminal) → Follows false (told expiry m).order (is_some (after expiry m).procedure)
+ExpiredT202Follows = (m : Terminal) → Follows false (told expiry m).orders (is_some (after expiry m).procedure)
 
 -- The reference number of a message that has one of its own.
 abbrev pub ri_of : Message → Option ℕ
@@ -136,7 +140,7 @@ UnservedChangesNothing = (e : Event) (m : Terminal) → (told e m).unserved ≡ 
 -- if it ran.
 pub record IsGivenUp (m : Terminal) : Type 0 where
   pub after : after down m ≡ record m { procedure = None; waiting = [] }
-  pub told : told down m ≡ record nothing { order = stop_of m.procedure }
+  pub told : told down m ≡ record nothing { orders = stop_of m.procedure }
 
 abbrev pub DownGivesUp : Type 0
 DownGivesUp = (m : Terminal) → IsGivenUp m

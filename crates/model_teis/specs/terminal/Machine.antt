@@ -1,14 +1,10 @@
--- TEI management of one line of a terminal: its state, and what is told of an event (Q.921 clause 5.3).
-use Rattle.std.specs.Prelude.{ℕ, ◌*◌, Bool, false, List, [], length, replicate, Option, None}
-use Rattle.model_teis.specs.declared.changes.Change.{Change}
+-- TEI management of one line of a terminal: its state (Q.921 clause 5.3).
+use Rattle.std.specs.Prelude.{ℕ, ◌*◌, List, [], length, replicate, Option, None}
 use Rattle.model_teis.specs.Table.{Places, place_of}
 use Rattle.model_teis.specs.terminal.Messages.{Message}
 pub use Rattle.model_teis.specs.declared.terminal.procedure.Procedure.{Procedure}
 pub use Rattle.model_teis.specs.declared.terminal.procedure.Procedure.TheVariants.{Asking, Verifying}
-pub use Rattle.model_teis.specs.declared.terminal.told.News.{News}
-pub use Rattle.model_teis.specs.declared.terminal.told.News.TheVariants.{Assigned, Removed, Denied, Unassigned, RemoveAll}
-pub use Rattle.model_teis.specs.declared.terminal.told.T202Order.{T202Order}
-pub use Rattle.model_teis.specs.declared.terminal.told.T202Order.TheVariants.{Start, Stop}
+pub use Rattle.model_teis.specs.Told.{TeiTold, nothing}
 
 -- The table of the TEIs; the next reference number; the procedure that runs, if one does; and the messages that wait to
 -- be sent, the oldest first.
@@ -37,14 +33,3 @@ place tei m = place_of tei m.places
 -- The octets that are held: those of the frames that wait, without their check.
 abbrev pub held : Terminal → ℕ
 held m = 8 * length m.waiting
-
--- What is told of an event: the note of TEI management; whether a TEI came to the line or left it; what is ordered of
--- T202; and whether the event is one that is not served.
-pub record TerminalTold : Type 0 where
-  pub news : Option News
-  pub change : Option Change
-  pub order : Option T202Order
-  pub unserved : Bool
-
-abbrev pub nothing : TerminalTold
-nothing = record { news = None; change = None; order = None; unserved = false }

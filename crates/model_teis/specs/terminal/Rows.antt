@@ -1,10 +1,11 @@
 -- The table of TEI management of a terminal (Q.921 clause 5.3): one equation for each row.
 use Rattle.std.specs.Prelude.{ℕ, ◌+◌, Bool, not, ◌&&◌, ◌==◌, nat_le, nat_lt, List, [], ◌∷◌, Option, Some, None, if◌then◌else◌}
 use Rattle.std.specs.List.{fold}
+use Rattle.lapd_frame.specs.declared.notes.Note.TheVariants.{Assigned, Removed, Denied, Unassigned, RemoveAll}
 use Rattle.model_teis.specs.Table.{Places, is_on, free_place}
 pub use Rattle.model_teis.specs.Table.{named}
 use Rattle.model_teis.specs.terminal.Messages.{Heard, IdentityAssigned, IdentityDenied, IdentityCheckRequest, IdentityRemove}
-use Rattle.model_teis.specs.terminal.Machine.{most_requests, most_verifies, Procedure, Asking, Verifying, Assigned, Removed, Denied, Unassigned, RemoveAll}
+use Rattle.model_teis.specs.terminal.Machine.{most_requests, most_verifies, Procedure, Asking, Verifying}
 use Rattle.model_teis.specs.Steps.{◌then◌, nothing_happens}
 use Rattle.model_teis.specs.terminal.Words.{Course, Step, note, unserved, ask, verify, end_procedure, end_verifying_of, respond, join, leave}
 

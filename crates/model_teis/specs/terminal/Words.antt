@@ -1,18 +1,22 @@
 -- The words of which the rows of the table are made. Each is a step of an event that is under way.
 use Rattle.std.specs.Prelude.{ℕ, Bool, true, false, not, ◌==◌, List, [], ◌∷◌, ◌++◌, filter, Option, Some, None, option_map, set, if◌then◌else◌}
 use Rattle.std.specs.List.{list_any, position}
+use Rattle.lapd_frame.specs.declared.notes.Note.{Note}
+use Rattle.lapd_frame.specs.declared.timers.Order.{Order}
+use Rattle.lapd_frame.specs.declared.timers.Order.TheVariants.{Start, Stop}
+use Rattle.lapd_frame.specs.declared.timers.Timer.TheVariants.{T202}
 use Rattle.model_teis.specs.Steps.{◌then◌, nothing_happens}
 use Rattle.model_teis.specs.Table.{place_of, freed}
 use Rattle.model_teis.specs.declared.changes.Change.TheVariants.{Gained}
 use Rattle.model_teis.specs.Changes.{left}
 use Rattle.model_teis.specs.terminal.Messages.{Message, IdentityRequest, IdentityCheckResponse, IdentityVerify}
 use Rattle.model_teis.specs.terminal.Numbers.{next_number}
-use Rattle.model_teis.specs.terminal.Machine.{Terminal, TerminalTold, nothing, Procedure, Asking, Verifying, News, T202Order, Start, Stop}
+use Rattle.model_teis.specs.terminal.Machine.{Terminal, TeiTold, nothing, Procedure, Asking, Verifying}
 
 -- an event under way: where things stand, and what is told so far
 pub record Course : Type 0 where
   pub now : Terminal
-  pub told : TerminalTold
+  pub told : TeiTold
 
 abbrev pub begun : Terminal → Course
 begun m = record { now = m; told = nothing }
@@ -20,11 +24,12 @@ begun m = record { now = m; told = nothing }
 abbrev pub Step : Type 0
 Step = Course → Course
 
-abbrev pub note : News → Step
-note news c = record c { told = record c.told { news = Some news } }
+-- At most one note is told, and one order.
+abbrev pub note : Note → Step
+note n c = record c { told = record c.told { notes = n ∷ [] } }
 
-abbrev pub order : T202Order → Step
-order o c = record c { told = record c.told { order = Some o } }
+abbrev pub order : Order → Step
+order o c = record c { told = record c.told { orders = o ∷ [] } }
 
 abbrev pub unserved : Step
 unserved c = record c { told = record c.told { unserved = true } }
@@ -67,7 +72,7 @@ with_verify tei waiting = if list_any is_verify waiting then waiting else waitin
 
 -- A TEI is asked for (clause 5.3.2): with a new reference number each time (clause 5.3.2.1), for one run of T202.
 abbrev pub ask : ℕ → Step
-ask attempts c = order Start (record c {
+ask attempts c = order (Start T202) (record c {
   now = record c.now {
     number = next_number c.now.number;
     procedure = Some (Asking c.now.number attempts);
@@ -77,18 +82,18 @@ ask attempts c = order Start (record c {
 
 -- A TEI is verified (clause 5.3.5): the network is asked to check it, and T202 runs.
 abbrev pub verify : ℕ → ℕ → Step
-verify tei attempts c = order Start (record c {
+verify tei attempts c = order (Start T202) (record c {
   now = record c.now { procedure = Some (Verifying tei attempts); waiting = with_verify tei c.now.waiting };
 })
 
 -- A procedure ends, and with it T202. Its message, if it waits, is withdrawn: only check responses stay (profile).
 abbrev pub end_procedure : Step
-end_procedure c = order Stop (record c { now = record c.now { procedure = None; waiting = filter is_response c.now.waiting } })
+end_procedure c = order (Stop T202) (record c { now = record c.now { procedure = None; waiting = filter is_response c.now.waiting } })
 
 -- T202 stops, if it runs.
-abbrev pub stop_of : Option Procedure → Option T202Order
-stop_of None = None
-stop_of (Some procedure) = Some Stop
+abbrev pub stop_of : Option Procedure → List Order
+stop_of None = []
+stop_of (Some procedure) = Stop T202 ∷ []
 
 -- Verifying of a TEI ends, if it runs.
 abbrev pub is_verified : ℕ → Option Procedure → Bool

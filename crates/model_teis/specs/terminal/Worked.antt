@@ -1,7 +1,10 @@
 -- Worked values: a terminal whose first reference number is 4660 (1234 in hexadecimal), with room for eight TEIs.
 use Rattle.std.specs.Prelude.{◌≡◌, ℕ, List, [], ◌∷◌, Some, None, refl}
+use Rattle.lapd_frame.specs.declared.notes.Note.TheVariants.{Assigned, Removed, Denied, Unassigned, RemoveAll}
+use Rattle.lapd_frame.specs.declared.timers.Order.TheVariants.{Start, Stop}
+use Rattle.lapd_frame.specs.declared.timers.Timer.TheVariants.{T202}
 use Rattle.model_teis.specs.declared.changes.Change.TheVariants.{Gained, Left}
-use Rattle.model_teis.specs.terminal.Machine.{Terminal, fresh, nothing, Assigned, Removed, Denied, Unassigned, RemoveAll, Start, Stop}
+use Rattle.model_teis.specs.terminal.Machine.{Terminal, fresh, nothing}
 use Rattle.model_teis.specs.terminal.Numbers.{next_number}
 use Rattle.model_teis.specs.terminal.Events.{Event, message, expiry, ask, assign, after, told, offered, after_offer}
 unfoldable use Rattle.model_teis.specs.terminal.Events.{course}
@@ -39,7 +42,7 @@ abbrev of_type : ℕ → ℕ → List ℕ
 of_type type last = 0x0F ∷ 0 ∷ 0 ∷ type ∷ last ∷ []
 
 -- A TEI is asked for, and T202 started.
-asks : told ask line ≡ record nothing { order = Some Start }
+asks : told ask line ≡ record nothing { orders = Start T202 ∷ [] }
 unfolding course
 asks = refl
 
@@ -51,7 +54,7 @@ request_goes = refl
 abbrev asked : Terminal
 asked = after_offer (after ask line)
 
-takes : told (message assigned) asked ≡ record nothing { news = Some (Assigned 64); change = Some (Gained 64 0); order = Some Stop }
+takes : told (message assigned) asked ≡ record nothing { notes = Assigned 64 ∷ []; change = Some (Gained 64 0); orders = Stop T202 ∷ [] }
 unfolding course
 takes = refl
 
@@ -62,7 +65,7 @@ answers : offered (after (message (of_type 4 0x81)) has_64) ≡ Some (0xFC ∷ 0
 unfolding course
 answers = refl
 
-leaves : told (message (of_type 6 0x81)) has_64 ≡ record nothing { news = Some (Removed 64); change = Some (Left 64 0) }
+leaves : told (message (of_type 6 0x81)) has_64 ≡ record nothing { notes = Removed 64 ∷ []; change = Some (Left 64 0) }
 unfolding course
 leaves = refl
 
@@ -76,11 +79,11 @@ unfolding course
 none_after_it = refl
 
 -- After three attempts no TEI was assigned. A denial ends nothing.
-gives_up : told expiry (after_all (ask ∷ expiry ∷ expiry ∷ []) line) ≡ record nothing { news = Some Unassigned; order = Some Stop }
+gives_up : told expiry (after_all (ask ∷ expiry ∷ expiry ∷ []) line) ≡ record nothing { notes = Unassigned ∷ []; orders = Stop T202 ∷ [] }
 unfolding course
 gives_up = refl
 
-is_denied : told (message denied) (after ask line) ≡ record nothing { news = Some Denied }
+is_denied : told (message denied) (after ask line) ≡ record nothing { notes = Denied ∷ [] }
 unfolding course
 is_denied = refl
 
@@ -96,7 +99,7 @@ second_answer : offered (after_offer (after (message (of_type 4 0xFF)) has_both)
 unfolding course
 second_answer = refl
 
-all_are_to_go : told (message (of_type 6 0xFF)) has_both ≡ record nothing { news = Some RemoveAll }
+all_are_to_go : told (message (of_type 6 0xFF)) has_both ≡ record nothing { notes = RemoveAll ∷ [] }
 unfolding course
 all_are_to_go = refl
 
@@ -108,10 +111,10 @@ verify_goes : offered doubts ≡ Some (0xFC ∷ 0xFF ∷ 0x03 ∷ 0x0F ∷ 0 ∷
 unfolding course
 verify_goes = refl
 
-verifies_again : told expiry doubts ≡ record nothing { order = Some Start }
+verifies_again : told expiry doubts ≡ record nothing { orders = Start T202 ∷ [] }
 unfolding course
 verifies_again = refl
 
-leaves_unverified : told expiry (after expiry doubts) ≡ record nothing { news = Some (Removed 64); change = Some (Left 64 0); order = Some Stop }
+leaves_unverified : told expiry (after expiry doubts) ≡ record nothing { notes = Removed 64 ∷ []; change = Some (Left 64 0); orders = Stop T202 ∷ [] }
 unfolding course
 leaves_unverified = refl

@@ -2,14 +2,12 @@
 //!
 //! - `messages`, `heard`: the messages of the terminal and of the network.
 //! - `procedure`: what the terminal has asked the network for.
-//! - `told`: what management is told, and what is ordered of T202.
 //! - `laws`: what holds of the table of events itself.
 
 mod heard;
 mod laws;
 mod messages;
 mod procedure;
-mod told;
 
 pub use heard::Heard;
 pub use laws::{
@@ -18,4 +16,3 @@ pub use laws::{
 };
 pub use messages::Message;
 pub use procedure::Procedure;
-pub use told::{News, T202Order};

@@ -10,13 +10,14 @@ ghost use Rattle.model_teis.specs.terminal.Sound.{may_ask, may_verify};
 ghost use Rattle.lapd_tei.specs.terminal.Outcome.{led_to, ordered};
 
 use super::TerminalTeis;
-use crate::terminal::outcome::TerminalOutcome;
+use crate::outcome::TeiOutcome;
 use crate::terminal::procedure::is_verified;
-use model_teis::terminal::{Procedure, T202Order};
+use lapd_frame::{Order, Timer};
+use model_teis::terminal::Procedure;
 
 impl TerminalTeis {
     // A TEI is asked for: with a new reference number, for one run of T202.
-    pub(super) fn ask_for(&mut self, attempts: u8) -> TerminalOutcome
+    pub(super) fn ask_for(&mut self, attempts: u8) -> TeiOutcome
         requires goes_on { may_ask self.old.procedure ≡ true }
         requires least { 1 ≤ attempts }
         requires most { attempts ≤ 3 }
@@ -26,11 +27,11 @@ impl TerminalTeis {
         self.number = following(ri);
         self.procedure = Some(Procedure::Asking { ri, attempts });
         self.queue.send_request(ri);
-        TerminalOutcome::ordered(Some(T202Order::Start))
+        TeiOutcome::ordered(Some(Order::Start(Timer::T202)))
     }
 
     // A TEI on the line is verified, for one run of T202.
-    pub(super) fn verify_for(&mut self, tei: u8, attempts: u8) -> TerminalOutcome
+    pub(super) fn verify_for(&mut self, tei: u8, attempts: u8) -> TeiOutcome
         requires on_line { is_on tei self.old.places ≡ true }
         requires goes_on { may_verify tei self.old.procedure ≡ true }
         requires least { 1 ≤ attempts }
@@ -39,20 +40,20 @@ impl TerminalTeis {
     {
         self.procedure = Some(Procedure::Verifying { tei, attempts });
         self.queue.send_verify(tei);
-        TerminalOutcome::ordered(Some(T202Order::Start))
+        TeiOutcome::ordered(Some(Order::Start(Timer::T202)))
     }
 
     // A procedure ends, and its message that waits is withdrawn.
-    pub(super) fn end_procedure(&mut self) -> Option<T202Order>
+    pub(super) fn end_procedure(&mut self) -> Option<Order>
         ensures ended { ordered self.new result ≡ end_procedure (begun self.old) }
     {
         self.procedure = None;
         self.queue.withdraw_others();
-        Some(T202Order::Stop)
+        Some(Order::Stop(Timer::T202))
     }
 
     // Verifying of a TEI ends, if it runs.
-    pub(super) fn end_verifying_of(&mut self, tei: u8) -> Option<T202Order>
+    pub(super) fn end_verifying_of(&mut self, tei: u8) -> Option<Order>
         ensures ended { ordered self.new result ≡ end_verifying_of tei (begun self.old) }
         ensures over { is_verified tei self.new.procedure ≡ false }
         ensures places { self.new.places ≡ self.old.places }
@@ -66,7 +67,7 @@ impl TerminalTeis {
 
     // A check of a TEI on the line is answered, unless an answer for it waits; verifying of it ends. Answers what is
     // ordered of T202, here or `before`.
-    pub(super) fn answer(&mut self, tei: u8, before: Option<T202Order>) -> Option<T202Order>
+    pub(super) fn answer(&mut self, tei: u8, before: Option<Order>) -> Option<Order>
         requires { is_on tei self.old.places ≡ true }
         ensures answered { ordered self.new result ≡ answer tei (ordered self.old before) }
         ensures places { self.new.places ≡ self.old.places }

@@ -1,7 +1,6 @@
 -- Hand-written answers for `Managing::expire_t201`.
-use Rattle.lapd_line.proofs.Vocabulary.{sym, subst, refl, ap, ◌∙◌, at_management, at_terminal, told_of_terminal}
+use Rattle.lapd_line.proofs.Vocabulary.{sym, subst, at_management}
 use Rattle.model_teis.specs.network.Events as teis
-use Rattle.model_teis.specs.terminal.Events as terminals
 use Rattle.lapd_line.specs.TeiChanges.{Answers}
 use Rattle.lapd_line.specs.declared.managing.Managing.TheVariants as kind
 use Rattle.lapd_line.proofs.ManagingSteps.{network_answers, no_t201}
@@ -15,4 +14,4 @@ returns-in-Network-clause-answers c =
 
 pub returns-in-Terminal-clause-answers : goal.returns-in-Terminal-clause-answers
 returns-in-Terminal-clause-answers c =
-    subst (λ x. Answers (at_management teis.expiry) x x c.nothing.result) (sym c.in-Terminal.is) (no_t201 c.in-Terminal.field-0 c.nothing.result c.nothing.ensures.change c.nothing.ensures.told)
+    subst (λ x. Answers (at_management teis.expiry) x x c.nothing.result) (sym c.in-Terminal.is) (no_t201 c.in-Terminal.field-0 c.nothing.result c.nothing.ensures.told)

@@ -10,7 +10,7 @@ use Rattle.model_link.specs.declared.states.State.TheVariants.{TeiAssigned, Awai
 use Rattle.model_link.specs.declared.terms.Terms.{Terms}
 use Rattle.model_link.specs.declared.timers.LinkTimer.{LinkTimer}
 use Rattle.model_link.specs.declared.timers.LinkTimer.TheVariants.{T200, T203}
-use Rattle.model_link.specs.Link.{Link, outstanding, state_number}
+use Rattle.model_link.specs.Link.{Link, most_rc, outstanding, state_number}
 use Rattle.model_link.specs.Sound.{is_information}
 use Rattle.model_link.specs.Told.{runs}
 use Rattle.lapd_link_steps.specs.declared.entity.Entity.{Entity}
@@ -83,5 +83,5 @@ pub record IsFit (t : Terms) (queued sent again : ℕ) (state : State) (own_busy
   pub within : sent ≤ t.k
   pub settled : IsSettled state asked queued
   pub owes_nothing : IsTrue own_busy → pending ≡ false
-  pub repeats : rc ≤ t.n200
+  pub repeats : rc ≤ most_rc t
   pub timed : IsTimed state running sent

@@ -14,6 +14,7 @@ ghost use Rattle.model_link.specs.declared.timers.LinkTimer.{LinkTimer};
 ghost use Rattle.model_link.specs.Link.{state_number};
 
 use crate::entity::Entity;
+use crate::timers::most_repeats;
 use lapd_image::{BadImage, Reader, put_number, put_octet};
 use lapd_seq::{Seq, Window};
 use model_link::{LinkCounts, LinkTimer, State, Terms};
@@ -98,7 +99,7 @@ impl Entity {
             && outstanding <= terms.k
             && (queued == 0 || self.may_keep())
             && !(self.own_busy && self.pending)
-            && self.repeats <= terms.n200
+            && self.repeats <= most_repeats(terms)
             && self.is_timed(outstanding)
     }
 

@@ -4,7 +4,7 @@ ghost use Rattle.std.specs.Prelude.{◌≡◌, ℕ, ◌<◌, true, List};
 ghost use Rattle.lapd_link_steps.specs.{runs, expired_step, expire_running, HasRoom, Tells};
 ghost use Rattle.lapd_link_steps.specs.Does.{Does};
 ghost use Rattle.lapd_link_steps.specs.Past.{Past, link_of};
-ghost use Rattle.model_link.specs.Link.{may_repeat};
+ghost use Rattle.model_link.specs.Link.{may_repeat, most_rc, most_repeats};
 
 use crate::entity::Entity;
 use crate::report::BareReport;
@@ -21,6 +21,14 @@ pub fn is_the(timer: LinkTimer, other: Option<LinkTimer>) -> bool
     }
 }
 
+// How often SABME, DISC or the enquiry is repeated at most, whichever state awaits its answer; and so what RC comes to at most.
+pub(crate) fn most_repeats(terms: &Terms) -> u8
+    ensures repeats { (state : ℕ) → result ≡ most_repeats terms.now state }
+    ensures rc { result ≡ most_rc terms.now }
+{
+    terms.n200
+}
+
 impl Entity {
     /// A timer expires. One that does not run changes nothing.
     #[tactic(auto, using(crate::proofs::Steps::where_yes))]
@@ -34,12 +42,12 @@ impl Entity {
         }
     }
 
-    // Whether a command or an enquiry that was not answered goes again: RC is less than N200, so it can be counted.
+    // Whether a command or an enquiry that was not answered goes again. Then RC can count it.
     pub(crate) fn may_repeat(&self, terms: &Terms) -> bool
         ensures machine { (past : Past) → result ≡ may_repeat terms.now (link_of self.now past) }
-        ensures counted { result ≡ true → (self.now.repeats < terms.now.n200) × (self.now.repeats < 255) }
+        ensures counted { result ≡ true → self.now.repeats < 255 }
     {
-        self.repeats < terms.n200
+        self.repeats < most_repeats(terms)
     }
 
     // Whether the timer runs.

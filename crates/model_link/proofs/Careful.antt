@@ -3,6 +3,7 @@
 use Rattle.model_link.proofs.Vocabulary.{arith, ◌≡◌, ℕ, ◌<◌, ◌≤◌, ◌⊎◌, Bool, true, false, IsTrue, List, ◌∷◌, length, Some, None, named, reject_number, Seq, Control, ErrorCode, State, TeiAssigned, AwaitingEstablishment, AwaitingRelease, Established, TimerRecovery, LinkCounts, LinkTimer, T203, ControlFrame, Terms, Course, ◌then◌, changed, is_multiple_frame, Data, Event, Request, requested}
 use Rattle.model_link.proofs.Vocabulary.{data_in_7_8}
 use Rattle.model_link.proofs.Vocabulary.{refusal}
+use Rattle.model_link.specs.Link.{most_rc}
 use Rattle.model_link.specs.Words
 use Rattle.model_link.specs.Offers
 use Rattle.model_link.proofs.Waits.{Waits}
@@ -84,8 +85,8 @@ pub record Careful (t : Terms) (Units Anew Taken Window Queued Offered : Type 0)
   pub settled : (p q : Purse) (c : Course) → P p q c → P p q (Words.pending_is false c)
   pub owing : (p q : Purse) (c : Course) → c.link.own_busy ≡ false → P (another p) q c → P p q (Words.pending_is true c)
   pub flags : (p q : Purse) (c : Course) → P p q c → P p q (Words.clear_flags c)
-  pub repeats : (p q : Purse) (n : ℕ) (c : Course) → n ≤ t.n200 → P p q c → P p q (Words.repeats_are n c)
-  pub repeated : (p q : Purse) (c : Course) → c.link.repeats < t.n200 → P p q c → P p q (Words.repeated c)
+  pub repeats : (p q : Purse) (n : ℕ) (c : Course) → n ≤ most_rc t → P p q c → P p q (Words.repeats_are n c)
+  pub repeated : (p q : Purse) (c : Course) → c.link.repeats < most_rc t → P p q c → P p q (Words.repeated c)
   -- the timers, and the state that is entered last
   pub start : (p q : Purse) (timer : LinkTimer) (c : Course) → P p q c → P p q (Words.start timer c)
   pub no_timer : (p q : Purse) (c : Course) → P p q c → P p q (Words.no_timer c)

@@ -4,7 +4,7 @@ use Rattle.model_link.proofs.Vocabulary.{LinkCounts, LinkTimer}
 use Rattle.model_link.proofs.Vocabulary.{T200, T203}
 use Rattle.model_link.proofs.Vocabulary.{ControlFrame, Terms, has_outstanding, is_asked, is_peer_busy, is_own_busy, is_multiple_frame, Course, Step, ◌then◌, nothing, depending_on, establish_in_4, frame_in_4, frame_in_5, frame_in_6, acknowledged_in_8, particulars_in_8, frame_in, response}
 use Rattle.std.specs.Prelude.{◌&&◌}
-use Rattle.model_link.specs.Link.{may_repeat}
+use Rattle.model_link.specs.Link.{Link, state_number, may_repeat, most_repeats, most_rc}
 use Rattle.model_link.specs.Words
 use Rattle.model_link.specs.MultipleFrame
 use Rattle.model_link.specs.Established
@@ -20,6 +20,13 @@ x ▹ y = then_leads x y
 
 abbrev pub one : Purse
 one = another no_more
+
+-- no state repeats more often than RC counts
+pub repeats-low : (t : Terms) (state : ℕ) → most_repeats t state ≤ most_rc t
+repeats-low t state = omega arith
+
+counted-on : (t : Terms) (l : Link) → may_repeat t l ≡ true → l.repeats < most_rc t
+counted-on t l told = omega (arith, ltb-true l.repeats (most_repeats t (state_number l.state)) told, repeats-low t (state_number l.state))
 
 -- what `named` finds lies between V(A) and V(S)
 pub named-within : (a s m : ℕ) (nr : Seq) → named a s nr ≡ Some m → (a ≤ m) × (m ≤ s)
@@ -63,7 +70,7 @@ module _ {t : Terms} {Units Anew Taken Window Queued Offered : Type 0} {In : Sta
   pub flags : {X : Claim} {p q : Purse} → Leads (At X (P p q)) Words.clear_flags (At X (P p q))
   flags {p = p} {q = q} = record { leads = λ c h. record { known = h.known; holds = k.flags p q c h.holds } }
 
-  pub repeats : {X : Claim} {p q : Purse} (n : ℕ) → n ≤ t.n200 → Leads (At X (P p q)) (Words.repeats_are n) (At X (P p q))
+  pub repeats : {X : Claim} {p q : Purse} (n : ℕ) → n ≤ most_rc t → Leads (At X (P p q)) (Words.repeats_are n) (At X (P p q))
   repeats {p = p} {q = q} n few = record { leads = λ c h. record { known = h.known; holds = k.repeats p q n c few h.holds } }
 
   -- one repeat more, after what leaves RC, if there may be one
@@ -72,7 +79,7 @@ module _ {t : Terms} {Units Anew Taken Window Queued Offered : Type 0} {In : Sta
   repeated {p = p} {q = q} {f = f} same x = record {
     leads = λ c h.
         let after = x.leads c h.holds in
-        record { known = after.known; holds = k.repeated p q (f c) (subst (λ n. n < t.n200) (sym (same c)) (ltb-true c.link.repeats t.n200 h.told)) after.holds };
+        record { known = after.known; holds = k.repeated p q (f c) (subst (λ n. n < most_rc t) (sym (same c)) (counted-on t c.link h.told)) after.holds };
   }
 
   pub start : {X : Claim} {p q : Purse} (timer : LinkTimer) → Leads (At X (P p q)) (Words.start timer) (At X (P p q))

@@ -1,5 +1,6 @@
 -- What each word of the tables does with a claim, as a record with a field for each word.
 use Rattle.model_link.proofs.Vocabulary.{arith, ◌≡◌, ℕ, ◌+◌, ◌<◌, ◌≤◌, Bool, true, false, List, Option, Control, Information, Sabme, Ui, Ua, ErrorCode, State, LinkCounts, LinkTimer, ControlFrame, Terms, Course, changed, Event, cleared, frame, received, data_in_7_8}
+use Rattle.model_link.specs.Link.{most_rc}
 use Rattle.model_link.specs.Words
 use Rattle.model_link.specs.Offers
 
@@ -57,8 +58,8 @@ pub record Kept (t : Terms) (Units Anew Taken : Type 0) (S : Course → Type 0) 
   pub owing : (p q : Purse) (c : Course) → c.link.own_busy ≡ false → P p q c → P p q (Words.pending_is true c)
   pub flags : (p q : Purse) (c : Course) → P p q c → P p q (Words.clear_flags c)
   pub asked : (p q : Purse) (b : Bool) (c : Course) → P p q c → P p q (Words.asked_is b c)
-  pub repeats : (p q : Purse) (n : ℕ) (c : Course) → n ≤ t.n200 → P p q c → P p q (Words.repeats_are n c)
-  pub repeated : (p q : Purse) (c : Course) → c.link.repeats < t.n200 → P p q c → P p q (Words.repeated c)
+  pub repeats : (p q : Purse) (n : ℕ) (c : Course) → n ≤ most_rc t → P p q c → P p q (Words.repeats_are n c)
+  pub repeated : (p q : Purse) (c : Course) → c.link.repeats < most_rc t → P p q c → P p q (Words.repeated c)
   -- the state and the timers
   pub enter : (p q : Purse) (state : State) (c : Course) → P p q c → P p q (Words.enter state c)
   pub start : (p q : Purse) (timer : LinkTimer) (c : Course) → P p q c → P p q (Words.start timer c)

@@ -1,5 +1,6 @@
 -- RC stays at most N200.
 use Rattle.model_link.proofs.Vocabulary.{arith, ◌≡◌, ℕ, ◌+◌, ◌<◌, ◌≤◌, Course, begun, Terms, Link, Event, after}
+use Rattle.model_link.specs.Link.{most_rc}
 use Rattle.model_link.proofs.Kept.{Kept}
 use Rattle.model_link.proofs.Rows.{every_event}
 
@@ -13,10 +14,10 @@ one-more : {most n : ℕ} → n < most → Few most (n + 1)
 one-more less = record { few = omega arith }
 
 abbrev On : Terms → Course → Type 0
-On t c = Few t.n200 c.link.repeats
+On t c = Few (most_rc t) c.link.repeats
 
 words : (t : Terms) → Kept t (Unit {0}) (Unit {0}) (Unit {0}) (On t) (λ p q c. On t c) (On t)
 words t = grind (arith, set, one-more)
 
-pub few-after : (t : Terms) (e : Event) (l : Link) → l.repeats ≤ t.n200 → (after t e l).repeats ≤ t.n200
+pub few-after : (t : Terms) (e : Event) (l : Link) → l.repeats ≤ most_rc t → (after t e l).repeats ≤ most_rc t
 few-after t e l few = ((every_event (words t) e).leads (begun l) (set few)).few

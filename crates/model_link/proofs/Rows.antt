@@ -7,19 +7,22 @@ use Rattle.lapd_frame.specs.declared.readings.Reading.{Reading}
 use Rattle.lapd_frame.specs.declared.readings.Reading.TheVariants.{Profile, AnnexB}
 use Rattle.std.proofs.Math.Nat.{min-le_right}
 use Rattle.model_link.specs.Established.{first_repeats}
-use Rattle.model_link.specs.Link.{may_repeat}
+use Rattle.model_link.specs.Link.{may_repeat, most_repeats, most_rc}
 use Rattle.model_link.specs.Machine
 use Rattle.model_link.proofs.Leads.{Leads, depending_leads, tested_leads, Passed, from_more}
 use Rattle.model_link.proofs.Waits.{sabme_waits, may_wait}
 use Rattle.model_link.proofs.Kept.{Purse, no_more, two, Fits, FitsEvent, Kept, any_event}
 use Rattle.model_link.proofs.Careful.{Claim, At, anything, paid, QueuesFor, Queues, Careful, plainly, any_contents}
-use Rattle.model_link.proofs.FrameRows.{one, ◌▹◌, error, release_indication, release_confirm, send, settled, repeats, repeated, start, no_timer, count, discard, ready, untold, ends, stays, enter_4, enter_6, enter_8, knowing, begun_by, malformed, establish, failed, frame_by}
+use Rattle.model_link.proofs.FrameRows.{one, repeats-low, ◌▹◌, error, release_indication, release_confirm, send, settled, repeats, repeated, start, no_timer, count, discard, ready, untold, ends, stays, enter_4, enter_6, enter_8, knowing, begun_by, malformed, establish, failed, frame_by}
 
 -- an enquiry begins with no more repeats than there may be
 few-first : (reading : Reading) (n200 : ℕ) (timer : LinkTimer) → first_repeats reading n200 timer ≤ n200
 few-first Profile n200 timer = omega arith
 few-first AnnexB n200 T200 = min-le_right 1 n200
 few-first AnnexB n200 T203 = omega arith
+
+few-counted : (t : Terms) (timer : LinkTimer) → first_repeats t.reading (most_repeats t 8) timer ≤ most_rc t
+few-counted t timer = omega (arith, few-first t.reading (most_repeats t 8) timer, repeats-low t 8)
 
 -- what a test tells may not matter
 passed : {P Q : Course → Type 0} {f : Step} {test : Link → Bool} {b : Bool} → Leads P f Q → Leads (Passed P test b) f Q
@@ -45,7 +48,7 @@ module _ {t : Terms} {Units Anew Taken Window Queued Offered : Type 0} {In : Sta
       tested_leads (may_repeat t) (ends k (repeated k (λ c. refl) (send k (may_wait t (command (Disc true)) refl refl (omega arith) refl)) ▹ start k T200))
       (passed (knowing k (λ a s n state x. inr (AwaitingRelease, x.0, refl)) (error k ErrorCode.H ▹ release_confirm k ▹ no_timer k ▹ enter_4 k)))
   expired_by AwaitingRelease T203 = stays k
-  expired_by Established timer = repeats k _ (few-first t.reading t.n200 timer) ▹ ready k true ▹ start k T200 ▹ enter_8 k
+  expired_by Established timer = repeats k _ (few-counted t timer) ▹ ready k true ▹ start k T200 ▹ enter_8 k
   expired_by TimerRecovery T200 = tested_leads (may_repeat t) (ends k (repeated k (λ c. refl) (ready k true) ▹ start k T200)) (passed (failed k ErrorCode.I))
   expired_by TimerRecovery T203 = stays k
 

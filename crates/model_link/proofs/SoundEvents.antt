@@ -1,5 +1,6 @@
 -- Every event leads from a sound link to a sound link.
 use Rattle.model_link.proofs.Vocabulary.{◌≡◌, ℕ, ◌-◌, ◌≤◌, List, [], ◌∷◌, length, drop, refl, arith, length-drop, Terms, Link, fresh, queue_of, IsInRange, IsSound, Course, begun, Event, after, after_all, course}
+use Rattle.model_link.specs.Link.{most_rc}
 use Rattle.model_link.proofs.Kept.{any_event}
 use Rattle.model_link.proofs.Careful.{Queues, any_contents}
 use Rattle.model_link.proofs.Rows.{event_by}
@@ -10,7 +11,7 @@ use Rattle.model_link.proofs.SoundRows.{CourseStands, stand, begins}
 pub sound-stands : (t : Terms) (q : ℕ) (l : Link) → length (queue_of l) ≤ q → IsSound t l → CourseStands t q (begun l)
 sound-stands t q l few h = grind (arith, length-drop)
 
-stands-sound : (t : Terms) (c : Course) → c.link.repeats ≤ t.n200 → CourseStands t t.queue c → IsSound t c.link
+stands-sound : (t : Terms) (c : Course) → c.link.repeats ≤ most_rc t → CourseStands t t.queue c → IsSound t c.link
 stands-sound t c few h = grind (arith, length-drop)
 
 -- A sound link stays sound.

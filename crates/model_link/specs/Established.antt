@@ -8,7 +8,7 @@ use Rattle.lapd_frame.specs.declared.readings.Reading.TheVariants.{Profile, Anne
 use Rattle.model_link.specs.declared.timers.LinkTimer.{LinkTimer}
 use Rattle.model_link.specs.declared.timers.LinkTimer.TheVariants.{T200, T203}
 use Rattle.model_link.specs.declared.terms.Terms.{Terms}
-use Rattle.model_link.specs.Link.{Link, is_peer_busy}
+use Rattle.model_link.specs.Link.{Link, is_peer_busy, most_repeats}
 use Rattle.model_link.specs.Steps.{Step, ◌then◌, nothing, depending_on, by_bit}
 use Rattle.model_link.specs.Words.{error, repeats_are, acknowledge, send_again_from, start, enter, enquire}
 use Rattle.model_link.specs.MultipleFrame.{Particulars, frame_in_7_8}
@@ -72,4 +72,4 @@ first_repeats AnnexB n200 T203 = 0
 
 -- T200 or T203 expires (clauses 5.6.7 and 5.10.3).
 abbrev pub timer_in_7 : Terms → LinkTimer → Step
-timer_in_7 t timer = repeats_are (first_repeats t.reading t.n200 timer) then enquire t then start T200 then enter TimerRecovery
+timer_in_7 t timer = repeats_are (first_repeats t.reading (most_repeats t 8) timer) then enquire t then start T200 then enter TimerRecovery

@@ -97,9 +97,18 @@ is_own_busy l = l.own_busy
 abbrev pub is_rejecting : Link → Bool
 is_rejecting l = l.rejecting
 
+-- How often SABME, DISC or the enquiry may be repeated, in the state of this number, which awaits its answer: N200 times (clauses
+-- 5.5.1.3, 5.5.3.3, 5.6.7 and 5.9.2). `repeats_in` of `model_line` says it by the configuration.
+abbrev pub most_repeats : Terms → ℕ → ℕ
+most_repeats t state = t.n200
+
+-- RC is at most this, in any state.
+abbrev pub most_rc : Terms → ℕ
+most_rc t = t.n200
+
 -- RC < N200
 abbrev pub may_repeat : Terms → Link → Bool
-may_repeat t l = nat_lt l.repeats t.n200
+may_repeat t l = nat_lt l.repeats (most_repeats t (state_number l.state))
 
 -- State 7 or 8, as a test of a state.
 abbrev pub is_multiple_frame : State → Bool

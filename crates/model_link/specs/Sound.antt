@@ -8,7 +8,7 @@ use Rattle.model_link.specs.declared.states.State.{State}
 use Rattle.model_link.specs.declared.states.State.TheVariants.{TeiAssigned, AwaitingEstablishment, AwaitingRelease, Established, TimerRecovery}
 use Rattle.model_link.specs.declared.frames.ControlFrame.{ControlFrame}
 use Rattle.model_link.specs.declared.terms.Terms.{Terms}
-use Rattle.model_link.specs.Link.{Link, queue_of, frame_of}
+use Rattle.model_link.specs.Link.{Link, queue_of, frame_of, most_rc}
 
 -- The ranges of a link's parameters (clause 5.9; for the capacities the profile).
 pub record IsInRange (t : Terms) : Type 0 where
@@ -60,7 +60,7 @@ pub record IsSound (t : Terms) (l : Link) : Type 0 where
   -- what waits are frames
   pub frames : All (IsWaitingFrame t) l.waiting
   -- RC is at most N200 (clause 5.9.2)
-  pub repeats : l.repeats ≤ t.n200
+  pub repeats : l.repeats ≤ most_rc t
 
 -- What an offer gives is a frame of the exchange, of at most four octets and contents that fit.
 pub record IsGiven (t : Terms) (f : ControlFrame) (contents : Option (List ℕ)) : Type 0 where

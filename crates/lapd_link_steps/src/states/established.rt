@@ -3,11 +3,13 @@
 ghost use Rattle.std.specs.Prelude.{◌≡◌, ℕ, Bool, List};
 ghost use Rattle.lapd_link_steps.specs.{IsValid, va_of, vs_of, Terms, Entity, DoesBy, HasRoom, Tells, effect_of};
 ghost use Rattle.model_link.specs.Established as row;
+ghost use Rattle.model_link.specs.Link.{most_repeats};
 ghost use Rattle.lapd_link_steps.specs.Does.{Does};
 
 use crate::entity::Entity;
 use crate::report::BareReport;
 use crate::states::multiple_frame::Bearer;
+use crate::timers::most_repeats;
 use lapd_frame::{ErrorCode, Reading};
 use lapd_seq::Seq;
 use model_link::{LinkTimer, State, Terms};
@@ -70,10 +72,10 @@ impl Entity {
 
 // RC once the enquiry is sent that the expiry of this timer asks for.
 fn first_repeats(terms: &Terms, timer: LinkTimer) -> u8
-    ensures { result ≡ row.first_repeats terms.now.reading terms.now.n200 timer }
+    ensures { result ≡ row.first_repeats terms.now.reading (most_repeats terms.now 8) timer }
 {
     match (terms.reading, timer) {
-        (Reading::AnnexB, LinkTimer::T200) => terms.n200.min(1),
+        (Reading::AnnexB, LinkTimer::T200) => most_repeats(terms).min(1),
         (Reading::AnnexB, LinkTimer::T203) | (Reading::Profile, _) => 0,
     }
 }

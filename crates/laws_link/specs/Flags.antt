@@ -7,7 +7,7 @@ use Rattle.model_link.specs.declared.states.State.{State}
 use Rattle.model_link.specs.declared.states.State.TheVariants.{TeiAssigned, AwaitingEstablishment, AwaitingRelease, Established, TimerRecovery}
 use Rattle.model_link.specs.declared.frames.ControlFrame.{ControlFrame}
 use Rattle.model_link.specs.declared.terms.Terms.{Terms}
-use Rattle.model_link.specs.Link.{Link, is_multiple_frame}
+use Rattle.model_link.specs.Link.{Link, is_multiple_frame, most_repeats}
 use Rattle.model_link.specs.Events.{frame, Establish, SetBusy, ClearBusy, Event, received, requested, offer}
 use Rattle.laws_link.specs.States.{moves, comes_to, is_clearing, is_anew}
 use Rattle.laws_link.specs.Waiting.{has_next_number, is_taken, is_time, put}
@@ -100,7 +100,7 @@ awaits_answer Established = false
 awaits_answer TimerRecovery = true
 
 abbrev pub counted_first : Terms → Event → Link → State → ℕ
-counted_first t e l to = if comes_to 8 l.state to && is_time e l then by_reading t.reading 0 (min 1 t.n200) else 0
+counted_first t e l to = if comes_to 8 l.state to && is_time e l then by_reading t.reading 0 (min 1 (most_repeats t 8)) else 0
 
 abbrev pub repeats_left : Terms → Event → Link → State → ℕ
 repeats_left t e l to =

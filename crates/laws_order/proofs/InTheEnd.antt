@@ -2,6 +2,7 @@
 use Rattle.laws_order.proofs.Vocabulary.{◌≡◌, ℕ, ◌≤◌, Bool, true, false, List, [], ◌∷◌, ◌++◌, refl, sym, ap, ◌∙◌, arith, true≢false, ◌⊎◌, inl, inr, All, list_any, All-nil, All-cons, All-head, All-tail, Service, other_side, AwaitingRelease, Link, is_multiple_frame, came, hears, expiry, request, next, Line, has_tei, terms, deactivates, Seen, Endpoint, Wire, requests, expires, sends}
 use Rattle.laws_order.proofs.Vocabulary.{receives, turned, Event, line_of, AnyStep, step, disturbed, any_acting, AnyStepAt, any_near, any_far, IsPossible, IsPossibleAt, any_doing, any_doing_all, events_here, seen_by, seen_at_near, seen_near, seen_far, t200s, IsToldAtLast, ReleasesAreTold, StaysThere, IsNotDeactivated, BothAreTold, ends_by, StaysEstablished, news, IsToldOfRelease, flat_map-append}
 use Rattle.laws_order.proofs.Vocabulary.{news_in, own_side, heard_side, Reading, subst}
+use Rattle.model_link.specs.Link.{most_repeats}
 use Rattle.laws_order.proofs.Beginning.{past-well, six-here, six-runs, on-here, begins-pair}
 use Rattle.laws_order.proofs.Down.{Speaks}
 use Rattle.laws_order.proofs.Leading.{NotHeard, near-led, not-heard}
@@ -166,7 +167,7 @@ releases-are-told service tei w hs p is all quiet none many = go (releases-end s
     go : IsToldOfRelease service tei (news (reads service tei w) service tei (seen_near hs w)) → IsToldAtLast service tei (news (reads service tei w) service tei (seen_near hs w))
     go (inl none) = too-few (run-counts service tei hs w (past-well w.near p) six (six-runs service tei w.near p six) all none)
       where
-        too-few : Bounded service tei (t200s service tei hs w) (link_here service tei w.near).repeats (terms w.near.card.config service tei).n200
+        too-few : Bounded service tei (t200s service tei hs w) (link_here service tei w.near).repeats (most_repeats (terms w.near.card.config service tei) 6)
             → IsToldAtLast service tei (news (reads service tei w) service tei (seen_near hs w))
         too-few o = grind arith
     go (inr told) = told

@@ -1,6 +1,7 @@
 -- An end that releases its link counts in RC the expiries of T200, until it is told.
 use Rattle.laws_order.proofs.Vocabulary.{◌≡◌, ℕ, ◌+◌, ◌≤◌, Bool, true, false, cond, List, [], ◌∷◌, ◌++◌, get_or, set, Option, Some, None, refl, sym, ap, ◌∙◌, subst, arith, ◌⊎◌, inl, inr, All, filter, length, nat_lt, ltb-true, get_or-set_same, All-head, Note, Service, TeiAssigned, AwaitingRelease, Terms, LinkTimer, T200, Link, Config, Line, fresh_line, link_of, place_in, terms, line_at, wants_room}
 use Rattle.laws_order.proofs.Vocabulary.{has_lines, by_room, event-follows, timed-after, Seen, none-ticks, own-is, Goes, event-goes, expired_of, off-fresh, nothing_yet, Endpoint, Wire, happens, fresh, Event, at, line_of, AnyStepAt, IsPossible, any_doing, seen_at_near, seen_near, is_t200, t200_by, t200s, news, LinkEvent, expired, after, flat_map-append, news_in}
+use Rattle.model_link.specs.Link.{most_repeats}
 use Rattle.model_line.specs.Machine as lines
 use Rattle.model_line.specs.Sound as line_sound
 use Rattle.model_card.proofs.Steps.{line_sound as sound_line}
@@ -12,13 +13,13 @@ use Rattle.laws_order.proofs.Released.{Occurs, reads, same-reading, nothing_ther
 pub record Counted (t : Terms) (l l' : Link) (n : ℕ) : Type 0 where
   pub running : l'.running ≡ Some T200
   pub repeats : l'.repeats ≡ n + l.repeats
-  pub below : (n ≡ 0) ⊎ (n + l.repeats ≤ t.n200)
+  pub below : (n ≡ 0) ⊎ (n + l.repeats ≤ most_repeats t 6)
 
 module _ (t : Terms) (l : Link) (is : l.state ≡ AwaitingRelease) (runs-on : l.running ≡ Some T200) where
   abbrev l' : LinkEvent → Link
   l' e = after t e l
 
-  expires : (again : Bool) → nat_lt l.repeats t.n200 ≡ again → (l' (expired T200)).state ≡ AwaitingRelease → Counted t l (l' (expired T200)) 1
+  expires : (again : Bool) → nat_lt l.repeats (most_repeats t 6) ≡ again → (l' (expired T200)).state ≡ AwaitingRelease → Counted t l (l' (expired T200)) 1
   expires again few stays = grind (arith, timed-after, event-follows, nat_lt, t, ltb-true)
 
 module _ (service : Service) (tei : ℕ) where
@@ -118,7 +119,7 @@ module _ (service : Service) (tei : ℕ) where
   untold ns ms n e rest h = let wrong : n ∷ (ms ++ rest) ≡ [] = ap (λ xs. xs ++ rest) (sym e) ∙ h in cc wrong
 
   pub run-counts : (hs : List AnyStepAt) (w : Wire) → IsWell w.near → (Here w).state ≡ AwaitingRelease → (Here w).running ≡ Some T200 → All (IsOpen w) hs
-      → news (reads service tei w) service tei (seen_near hs w) ≡ [] → Bounded (t200s service tei hs w) (Here w).repeats (Own_ w).n200
+      → news (reads service tei w) service tei (seen_near hs w) ≡ [] → Bounded (t200s service tei hs w) (Here w).repeats (most_repeats (Own_ w) 6)
   unfolding seen_near t200s
   run-counts [] w well is runs-on all none = inl refl
   run-counts (h ∷ hs) w well is runs-on all none =
@@ -144,13 +145,13 @@ module _ (service : Service) (tei : ℕ) where
 
       go : Occurs service tei w w' t es
           → (IsWell w'.near → (Here w').state ≡ AwaitingRelease → (Here w').running ≡ Some T200 → news r service tei (seen_near hs w') ≡ []
-          → Bounded (t200s service tei hs w') (Here w').repeats (Own_ w').n200)
-          → StepSix service tei w w' t es → Bounded (t200_by service tei h w + t200s service tei hs w') (Here w).repeats (Own_ w).n200
+          → Bounded (t200s service tei hs w') (Here w').repeats (most_repeats (Own_ w') 6))
+          → StepSix service tei w w' t es → Bounded (t200_by service tei h w + t200s service tei hs w') (Here w).repeats (most_repeats (Own_ w) 6)
       go o behind (inl (stays, x)) =
           let c = step-counts w w' t es well is runs-on o stays in
           let n = length (filter (is_t200 service tei) es) in
-          subst (λ n. Bounded (n + t200s service tei hs w') (Here w).repeats (Own_ w).n200) (sym (grind arith))
-          (add n (t200s service tei hs w') (Here w).repeats (Here w').repeats (Own_ w).n200 (Own_ w').n200 c.0.repeats (ap (λ (c : Config). (terms c service tei).n200) c.1) c.0.below
+          subst (λ n. Bounded (n + t200s service tei hs w') (Here w).repeats (most_repeats (Own_ w) 6)) (sym (grind arith))
+          (add n (t200s service tei hs w') (Here w).repeats (Here w').repeats (most_repeats (Own_ w) 6) (most_repeats (Own_ w') 6) c.0.repeats (ap (λ (c : Config). most_repeats (terms c service tei) 6) c.1) c.0.below
           (behind (then-well service tei w w' t es well o) stays c.0.running (ap (λ ns. ns ++ news r service tei (seen_near hs w')) (sym x.0) ∙ split)))
       go o behind (inr (to, inl (x, may))) = absurd (untold _ [] _ x.0 _ split)
       go o behind (inr (to, inr x)) = absurd (untold _ _ _ x.0 _ split)

@@ -1,9 +1,10 @@
 -- No answer is awaited longer than T200 may run out.
 use Rattle.laws_time.proofs.Vocabulary.{Answer, ArePrompt as TimedArePrompt, Bool, Clock, Config, Event, Expiry, IsInRange, Lengths, List, NoAnswerIsAwaitedLonger, None, Observed, Option, Parts, Service, Some, StaysIn, Step, T200, TimedCard, View, [], after_all as timed_after_all, anew, ap, append-nil, append_assoc, arith, at, at_moment, by_event, by_frame, by-bool, Moment}
-use Rattle.laws_time.proofs.Vocabulary.{by_t200, cond, due, eqb-true, event_of, events_of, expiry, falls_due, false, is_anew, is_on, is_some, is_waiting, ltb-true, may_repeat, moment_at as moment_of, mul-le, nat_le, not, of_frames, option_map, option_map_or, option_to_list, refl, runs, state, step_happens as happens, subst, sym, time, timed_events_of, true, true≢false}
+use Rattle.laws_time.proofs.Vocabulary.{by_t200, cond, due, eqb-true, event_of, events_of, expiry, falls_due, false, is_anew, is_on, is_some, is_waiting, ltb-true, may_repeat, moment_at as moment_of, nat_le, not, of_frames, option_map, option_map_or, option_to_list, refl, runs, state, step_happens as happens, subst, sym, time, timed_events_of, true, true≢false}
 use Rattle.laws_time.proofs.Vocabulary.{view_behind, view_of, without_first, ℕ, ◌&&◌, ◌*◌, ◌++◌, ◌+◌, ◌-◌, ◌<◌, ◌==◌, ◌||◌, ◌∙◌, ◌∷◌, ◌≡◌, ◌≤◌}
 use Rattle.lapd_frame.specs.declared.timers.Timer.TheVariants as timers
 use Rattle.model_line.specs.Event as line_event
+use Rattle.model_line.specs.Line.{repeats_in, tries}
 use Rattle.model_card.specs.Card as cards
 use Rattle.model_card.specs.Machine.{answer}
 use Rattle.model_card.specs.Run as runs_of
@@ -15,7 +16,7 @@ use Rattle.laws_time.proofs.Walk.{Stands, Holds, seen, step, q-is}
 use Rattle.laws_time.proofs.ArrivalsOneEvent.{no-expiry}
 use Rattle.laws_time.proofs.Falls.{in-time}
 use Rattle.laws_time.proofs.Before.{Goes, Stays, other-line, step-goes, each-fall, before-goes, begins, t200-leads, expired-anew}
-use Rattle.laws_time.proofs.Silent.{one-more}
+use Rattle.laws_time.proofs.Silent.{left-in-all}
 use Rattle.laws_time.proofs.OfCircuit.Orders.{awaits-in, not-anew}
 use Rattle.laws_time.proofs.Effects.{sent-like}
 
@@ -53,7 +54,7 @@ module _ (c : Config) (lengths : Lengths) (late number : ℕ) (ranged : IsInRang
 
   -- T200 falls due so early that all expiries that are left come by the limit.
   abbrev D : ℕ → ℕ → Type 0
-  D expiries m = m + late + (c.n200 - expiries) * (lengths.t200 + late) ≤ limit
+  D expiries m = m + late + (repeats_in c n - expiries) * (lengths.t200 + late) ≤ limit
 
   pub record Awaits (events : List Event) (t : TimedCard) : Type 0 where
     pub goes : G events t
@@ -101,7 +102,7 @@ module _ (c : Config) (lengths : Lengths) (late number : ℕ) (ranged : IsInRang
         }
 
   -- It falls due at m, and expires once more.
-  again : (now m e : ℕ) → now ≤ m + late → e < c.n200 → D e m → D (e + 1) (now + lengths.t200)
+  again : (now m e : ℕ) → now ≤ m + late → e < repeats_in c n → D e m → D (e + 1) (now + lengths.t200)
   again now m e late_is less d = grind arith
 
   module _ (events : List Event) (t u : TimedCard) (w : Awaits events t) (s : S events u) (same_now : u.clock.now ≡ t.clock.now)
@@ -123,7 +124,7 @@ module _ (c : Config) (lengths : Lengths) (late number : ℕ) (ranged : IsInRang
           due_by = step c lengths late number ranged within service tei events u s its T200 (λ m. ⊥) (D (o_at (events ++ at number its ∷ [])).expiries)
               (λ run kept. absurd (true≢false (sym (expired-anew c number ranged within service tei events s.all T200 run) ∙ kept))) (λ run m late_is h. absurd h)
               (λ begun run. subst (λ e. D e (u.clock.now + lengths.t200)) (sym count)
-              (again u.clock.now d.0 (o_at events).expiries (subst (λ k. k ≤ d.0 + late) (sym same_now) d.2) (ltb-true (o_at events).expiries c.n200 less) d.3));
+              (again u.clock.now d.0 (o_at events).expiries (subst (λ k. k ≤ d.0 + late) (sym same_now) d.2) (ltb-true (o_at events).expiries (repeats_in c (o_at events).state) less) d.3));
         })
         (λ none. absurd (led-out c (o_at events) (waits-at (o_at events) w.state_is) none (ap (λ (x : Observed). x.state) (sym leads) ∙ there.1 ∙ sym w.state_is)))
 
@@ -213,7 +214,7 @@ no-answer-is-awaited-longer service c lengths late number tei n before steps ran
     events = events_of before (fresh c lengths)
 
     limit : ℕ
-    limit = (after_all before (fresh c lengths)).clock.now + (c.n200 + 1) * (lengths.t200 + late)
+    limit = (after_all before (fresh c lengths)).clock.now + tries c * (lengths.t200 + late)
 
     g : Goes c lengths late number ranged within service tei (events_of before (fresh c lengths)) (after_all before (fresh c lengths))
     g = before-goes c lengths late number ranged within service tei [] (fresh c lengths) before (begins c lengths late number ranged within service tei) prompt_before
@@ -221,10 +222,8 @@ no-answer-is-awaited-longer service c lengths late number tei n before steps ran
     its : state number service tei (runs_of.after_all (cards.fresh c) (events_of before (fresh c lengths))) ≡ Some n
     its = ap (state number service tei) (sym g.stands.card) ∙ at_n
 
-    early : (now m e : ℕ) → m ≤ now + lengths.t200 → m + late + (c.n200 - e) * (lengths.t200 + late) ≤ now + (c.n200 + 1) * (lengths.t200 + late)
-    early now m e low =
-        let fewer = mul-le (c.n200 - e) (lengths.t200 + late) c.n200 (lengths.t200 + late) (omega arith) (omega arith) in let whole = one-more c.n200 (lengths.t200 + late) in
-        omega (arith, fewer, whole, low)
+    early : (now m e : ℕ) → m ≤ now + lengths.t200 → m + late + (repeats_in c n - e) * (lengths.t200 + late) ≤ now + tries c * (lengths.t200 + late)
+    early now m e low = omega (arith, left-in-all c n e (lengths.t200 + late), low)
 
     first : Awaits c lengths late number ranged within service tei n limit waiting events t
     first = record {

@@ -4,6 +4,7 @@ use Rattle.laws_time.proofs.Vocabulary.{eqb-true, event_of, events_of, expiry, f
 use Rattle.laws_time.proofs.Vocabulary.{true≢false, view_behind, view_of, without_first, ℕ, ◌&&◌, ◌*◌, ◌++◌, ◌+◌, ◌<◌, ◌==◌, ◌||◌, ◌∙◌, ◌∷◌, ◌≡◌, ◌≤◌, ◌⊎◌}
 use Rattle.lapd_frame.specs.declared.timers.Timer.TheVariants as timers
 use Rattle.model_line.specs.Event as line_event
+use Rattle.model_line.specs.Line.{repeats_in}
 use Rattle.model_card.specs.Card as cards
 use Rattle.model_card.specs.Machine.{answer}
 use Rattle.model_card.specs.Run as runs_of
@@ -99,9 +100,9 @@ module _ (c : Config) (lengths : Lengths) (late number : ℕ) (ranged : IsInRang
         never waits moves =
             let run = awaits-in o_was waits in
             let x = expiry-means c service tei o_was (timers.T200 service tei) waits (ap (λ (q : Observed). o_was.state == q.state) (sym ((led-by run ∙ sym (ap (λ b. cond b (by_t200 c o_was) o_was) (own-is service tei))))) ∙ moves) in
-            let many : c.n200 ≤ o_was.expiries = ltb-false o_was.expiries c.n200 x.1 in
-            let b = fewer c lengths late number ranged within service tei t0 slack floor least covers c.n200 o_was.expiries m0 many ((in-time-so (awaits-in o_was waits)).0 waits) in
-            let whole = mul-le (few + slack) lengths.t200 (c.n200 + 1) lengths.t200 most (omega arith) in let parts = add-mul few slack lengths.t200 in
+            let many : repeats_in c o_was.state ≤ o_was.expiries = ltb-false o_was.expiries (repeats_in c o_was.state) x.1 in
+            let b = fewer c lengths late number ranged within service tei t0 slack floor least covers (repeats_in c o_was.state) o_was.expiries m0 many ((in-time-so (awaits-in o_was waits)).0 waits) in
+            let whole = mul-le (few + slack) lengths.t200 (tries c) lengths.t200 most (omega arith) in let parts = add-mul few slack lengths.t200 in
             absurd (omega (arith, b, low, soon, whole, parts))
 
         go : (b : Bool) → Used (notes_due c service tei o_was q_then its (moment_at c events number its).answer) ≡ b → b ≡ false

@@ -1,14 +1,14 @@
 -- What is told at first and in the end, over plain values.
 use Rattle.laws_time.proofs.Vocabulary.{ADeadLineIsTold, ArePrompt as TimedArePrompt, AreStill, Clock, Config, Event, Expiry, IsFront, IsInRange, IsNoExpiry, IsStillAt, IsToldInTime, Lengths, LinkTimer, List, Moment, None, Note, Observed, Option, Service, Some, Step, T200, T203, TimedCard, View, [], after_all as timed_after_all, all_in, ap, append-nil, append_assoc, arith}
-use Rattle.laws_time.proofs.Vocabulary.{at, at_moment, cond, due, eqb-true, event_of, events_of, expiry, falls_due, false, filter, first_in, inl, inr, is_news, is_on, is_some, length, length-append, mul-le, nat_le, news, news_in, notes_of, of_frames, option_map, option_map_or, option_to_list, refl, runs, state, step_happens as happens, subst, sym, time, by-bool}
-use Rattle.laws_time.proofs.Vocabulary.{timed_events_of, told_in, true, true≢false, view_behind, view_of, without_first, ℕ, ⊎_elim, ◌*◌, ◌++◌, ◌+◌, ◌-◌, ◌<◌, ◌==◌, ◌∙◌, ◌∷◌, ◌≡◌, ◌≤◌, ◌⊎◌}
+use Rattle.laws_time.proofs.Vocabulary.{at, at_moment, cond, due, eqb-true, event_of, events_of, expiry, falls_due, false, filter, first_in, inl, inr, is_news, is_on, is_some, length, length-append, nat_le, news, news_in, notes_of, of_frames, option_map, option_map_or, option_to_list, refl, runs, state, step_happens as happens, subst, sym, time, by-bool}
+use Rattle.laws_time.proofs.Vocabulary.{timed_events_of, told_in, true, true≢false, view_behind, view_of, without_first, ℕ, ⊎_elim, ◌++◌, ◌+◌, ◌-◌, ◌<◌, ◌==◌, ◌∙◌, ◌∷◌, ◌≡◌, ◌≤◌, ◌⊎◌}
 use Rattle.lapd_frame.specs.declared.timers.Timer.TheVariants as timers
 use Rattle.model_line.specs.Event as line_event
 use Rattle.model_card.specs.Card as cards
 use Rattle.model_card.specs.Run as runs_of
 use Rattle.model_card.specs.Machine.{answer}
 use Rattle.model_timed.specs.Frames.{fresh, after, after_all, ArePrompt}
-use Rattle.laws_time.proofs.Silent.{Due200, Due203, owed, whole, one-more, Waits, waits-still, waits-200, waits-203, idle, idle-200-is, idle-203-is, idle-7, never-both, limit, IsPhase}
+use Rattle.laws_time.proofs.Silent.{Due200, Due203, owed, whole, left-in-all, Waits, waits-still, waits-200, waits-203, idle, idle-200-is, idle-203-is, idle-7, never-both, limit, IsPhase}
 use Rattle.laws_time.proofs.TimedFrames.{with_event, expiry_of, with_expiry as timed_expiry, IsPrompt}
 use Rattle.laws_time.proofs.Links.{view-then, on-where, state-is, elsewhere}
 use Rattle.laws_time.proofs.Moments.{at-lines}
@@ -16,9 +16,6 @@ use Rattle.laws_time.proofs.Effects.{is_its_expiry}
 use Rattle.laws_time.proofs.Walk.{Stands, Holds, seen}
 use Rattle.laws_time.proofs.Falls.{in-time}
 use Rattle.laws_time.proofs.Before.{Goes, Stays, other-line, step-goes, each-fall, before-goes, begins}
-
-mono : (n e x : ℕ) → (n - e) * x ≤ n * x
-mono n e x = mul-le (n - e) x n x (omega arith) (omega arith)
 
 four : (n : ℕ) → 4 ≤ n → n ≤ 8 → (n ≡ 4) ⊎ ((n ≡ 5) ⊎ ((n ≡ 6) ⊎ ((n ≡ 7) ⊎ (n ≡ 8))))
 four n low high = grind arith
@@ -33,20 +30,17 @@ module _ (c : Config) (lengths : Lengths) (late now : ℕ) where
   abbrev pub Start : ℕ → Type 0
   Start from = (e m : ℕ) → m ≤ now + lengths.t200 → Due200 c lengths.t200 late (F from) (A from) from e m
 
-  whole-left : (e : ℕ) → (c.n200 - e) * (lengths.t200 + late) + (lengths.t200 + late) ≤ (c.n200 + 1) * (lengths.t200 + late)
-  whole-left e = omega (arith, mono c.n200 e (lengths.t200 + late), one-more c.n200 (lengths.t200 + late))
-
   start-7 : Start 7
   start-7 e m h = omega (arith, h)
 
   start-8 : Start 8
-  start-8 e m h = omega (arith, h, whole-left e)
+  start-8 e m h = omega (arith, h, left-in-all c 8 e (lengths.t200 + late))
 
   start-5 : Start 5
-  start-5 e m h = omega (arith, h, whole-left e)
+  start-5 e m h = omega (arith, h, left-in-all c 5 e (lengths.t200 + late))
 
   start-6 : Start 6
-  start-6 e m h = omega (arith, h, whole-left e)
+  start-6 e m h = omega (arith, h, left-in-all c 6 e (lengths.t200 + late))
 
   pub start-200 : (from : ℕ) → 5 ≤ from → from ≤ 8 → Start from
   start-200 from low high = grind (arith, four, start-5, start-6, start-7, start-8)

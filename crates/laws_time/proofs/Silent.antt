@@ -1,10 +1,11 @@
 -- How a link of which nothing is heard goes on, and how long each step takes: over plain values.
 use Rattle.laws_time.proofs.Vocabulary.{Answer, AreAtLines, Bool, Clock, Config, Event, IsInRange, Lengths, LinkTimer, List, Note, Observed, Service, Some, T200, T203, TimedCard, Timer, View, [], anew, ap, append-nil, append_assoc, arith, at, awaits, by_event, by_t200, cond, counted, enquires, eq-eqb, eqb-true, expiry, false, in_state, inl, inr, is_anew, is_on, is_stirred}
-use Rattle.laws_time.proofs.Vocabulary.{le-ltb, ltb-true, may_repeat, moment_at as moment_of, nat_le, news_in, next, not, notes_due, of_frames, refl, request, runs, subst, sym, timer_of, told_in, tries, true, true≢false, view_behind, view_of, ℕ, ◌*◌, ◌++◌, ◌+◌, ◌-◌, ◌<◌, ◌==◌, ◌||◌, ◌∙◌, ◌∷◌, ◌≡◌, ◌≤◌, ◌⊎◌}
+use Rattle.laws_time.proofs.Vocabulary.{le-ltb, ltb-true, may_repeat, moment_at as moment_of, mul-le, nat_le, news_in, next, not, notes_due, of_frames, refl, request, runs, subst, sym, timer_of, told_in, tries, true, true≢false, view_behind, view_of, ℕ, ◌*◌, ◌++◌, ◌+◌, ◌-◌, ◌<◌, ◌==◌, ◌||◌, ◌∙◌, ◌∷◌, ◌≡◌, ◌≤◌, ◌⊎◌}
 use Rattle.lapd_frame.specs.declared.timers.Timer.TheVariants as timers
 use Rattle.model_line.specs.Event as line_event
 use Rattle.model_card.specs.Card as cards
 use Rattle.model_line.specs.Event.{hears}
+use Rattle.model_line.specs.Line.{repeats_in}
 use Rattle.laws_time.proofs.TimedFrames.{with_event}
 use Rattle.laws_time.proofs.Links.{view-then, stays-on}
 use Rattle.laws_time.proofs.Sending.{sends-on}
@@ -15,8 +16,9 @@ use Rattle.laws_time.proofs.Before.{Goes, t200-leads, t203-leads, expired-anew}
 pub one-more : (n x : ℕ) → (n + 1) * x ≡ x + n * x
 one-more n x = grind arith
 
-none-less : (n : ℕ) → n - 0 ≡ n
-none-less n = omega arith
+-- what is left of all that a command takes, after so many repeats
+pub left-in-all : (c : Config) (state e x : ℕ) → (repeats_in c state - e) * x + x ≤ tries c * x
+left-in-all c state e x = omega (arith, mul-le (repeats_in c state - e) x (repeats_in c state) x (omega arith) (omega arith), one-more (repeats_in c state) x)
 
 module _ (c : Config) (t200 late first all : ℕ) where
   abbrev pub pause : ℕ
@@ -25,26 +27,23 @@ module _ (c : Config) (t200 late first all : ℕ) where
   abbrev pub whole : ℕ
   whole = tries c * pause
 
-  abbrev pub left : ℕ → ℕ
-  left expiries = (c.n200 - expiries) * pause
+  abbrev pub left : ℕ → ℕ → ℕ
+  left state expiries = (repeats_in c state - expiries) * pause
 
   -- The moment of T200, in a state and after so many expiries; and that of T203.
   abbrev pub limit : ℕ → ℕ
   limit state = cond {A = ℕ} (state == 5 || state == 6) all first
 
   abbrev pub Due200 : ℕ → ℕ → ℕ → Type 0
-  Due200 state expiries m = m + late + (cond {A = ℕ} (state == 7) whole (left expiries)) ≤ limit state
+  Due200 state expiries m = m + late + (cond {A = ℕ} (state == 7) whole (left state expiries)) ≤ limit state
 
   abbrev pub Due203 : ℕ → Type 0
   Due203 m = m + late + pause + whole ≤ first
 
-  whole-is : whole ≡ pause + left 0
-  whole-is = one-more c.n200 pause ∙ ap (λ n. pause + n * pause) (sym (none-less c.n200))
-
   -- What T200 leads to that falls due at m, where it is now.
   module _ (now m : ℕ) (late_is : now ≤ m + late) where
     pub enquiry-203 : Due203 m → Due200 8 0 (now + t200)
-    enquiry-203 h = omega (arith, h, whole-is, late_is)
+    enquiry-203 h = omega (arith, h, left-in-all c 8 0 pause, late_is)
 
     pub sent : (e : ℕ) → Due203 m → Due200 7 e (now + t200)
     sent e h = omega (arith, h, late_is)

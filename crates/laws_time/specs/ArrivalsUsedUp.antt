@@ -6,7 +6,7 @@ use Rattle.lapd_frame.specs.declared.services.Service.{Service}
 use Rattle.lapd_frame.specs.Readings.{by_reading}
 use Rattle.model_line.specs.Sound.{IsInRange}
 use Rattle.model_line.specs.declared.config.Config.{Config}
-use Rattle.model_line.specs.Line.{tries}
+use Rattle.model_line.specs.Line.{repeats_in, tries}
 use Rattle.model_link.specs.declared.timers.LinkTimer.{LinkTimer}
 use Rattle.model_link.specs.declared.timers.LinkTimer.TheVariants.{T200, T203}
 use Rattle.model_timed.specs.Timed.{Step, after_all, ArePrompt}
@@ -17,7 +17,7 @@ use Rattle.laws_time.specs.Watched.{Watched, fresh}
 -- How many enquiries go at most, the first as T200 expires in state 7, or T203: as many as a command goes in all; but by annex B
 -- one fewer after T200, and at least one (Q.921 clauses 5.6.7 and 5.9.2).
 abbrev pub enquiries : Config → LinkTimer → ℕ
-enquiries c T200 = by_reading c.reading (tries c) (max 1 c.n200)
+enquiries c T200 = by_reading c.reading (tries c) (max 1 (repeats_in c 8))
 enquiries c T203 = tries c
 
 -- From a time on at which `Card::state` tells 4 or 7 of a link, it takes so long at least until N200 is used up.

@@ -3,6 +3,7 @@ use Rattle.laws_trace.proofs.Vocabulary.{◌≡◌, ℕ, ◌+◌, ◌≤◌, ◌
 use Rattle.laws_trace.proofs.Vocabulary.{cleared, Link, state_number, as_heard, state_after}
 use Rattle.laws_trace.proofs.Vocabulary.{moves, event-follows, ltb-true, ltb-false, LinkEvent as Event, frame, LinkEstablish as Establish, LinkRelease as Release, is_up, link_after as after}
 use Rattle.lapd_frame.specs.Readings.{by_reading}
+use Rattle.model_link.specs.Link.{most_repeats}
 use Rattle.laws_link.specs.States as states
 use Rattle.laws_trace.proofs.MovesWatched.{is_invalid, by_frame, by_expiry, first_of}
 use Rattle.laws_trace.proofs.States.{one_more}
@@ -38,12 +39,12 @@ timer_of (expired timer) = Some timer
 timer_of other = None
 
 abbrev pub first_at : Terms → State → Event → ℕ
-first_at t from e = first_of t.reading t.n200 (state_number from == 7) (timer_of e)
+first_at t from e = first_of t.reading (most_repeats t 8) (state_number from == 7) (timer_of e)
 
 -- What an observer says that an event leads to.
 abbrev pub expected : Terms → Known → ℕ → Event → ℕ → ℕ
 expected t k n (received (frame f)) state = by_frame t.reading k state f.address.command (is_long t f) f.control
-expected t k n (expired timer) state = by_expiry (nat_lt n t.n200) k state timer
+expected t k n (expired timer) state = by_expiry (nat_lt n (most_repeats t state)) k state timer
 expected t k n (requested Establish full) state = cond (state == 4) 5 state
 expected t k n (requested Release full) state = cond (is_up state) 6 state
 expected t k n (requested other full) state = state

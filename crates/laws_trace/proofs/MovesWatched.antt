@@ -4,6 +4,7 @@ use Rattle.laws_trace.proofs.Vocabulary.{is_up, Seen, heard, granted, Event}
 use Rattle.std.specs.Prelude.{min}
 use Rattle.lapd_frame.specs.declared.readings.Reading.{Reading}
 use Rattle.lapd_frame.specs.Readings.{by_reading}
+use Rattle.model_line.specs.Line.{repeats_in}
 use Rattle.laws_trace.specs.LinkFrames.{is_too_long}
 use Rattle.laws_trace.proofs.TimersWatched.{Known, awaits}
 use Rattle.laws_trace.proofs.States.{state_before, state_after, is_state, differ, expired_of, one_more}
@@ -74,7 +75,7 @@ first_of r n200 true (Some T200) = by_reading r 0 (min 1 n200)
 first_of r n200 up timer = 0
 
 abbrev pub first : Config → Option ℕ → Option LinkTimer → ℕ
-first c from timer = first_of c.reading c.n200 (is_state 7 from) timer
+first c from timer = first_of c.reading (repeats_in c 8) (is_state 7 from) timer
 
 abbrev pub repeated : Service → ℕ → ℕ → ℕ → Moment → ℕ
 repeated service tei number n m =
@@ -85,4 +86,4 @@ repeated service tei number n m =
 -- The state that an event leads to, with what is seen of it.
 abbrev pub led : Config → Service → ℕ → Known → ℕ → Event → List Seen → ℕ → ℕ
 led c service tei k n what now state =
-    fold (by_seen c service tei k) (option_map_or (by_expiry (nat_lt n c.n200) k state) (expired_of service tei what) state) now
+    fold (by_seen c service tei k) (option_map_or (by_expiry (nat_lt n (repeats_in c state)) k state) (expired_of service tei what) state) now

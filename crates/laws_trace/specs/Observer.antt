@@ -14,6 +14,7 @@ use Rattle.lapd_frame.specs.Readings.{by_reading}
 use Rattle.lapd_frame.specs.Senders.{reading}
 use Rattle.lapd_seq.specs.declared.numbers.Seq.{Seq}
 use Rattle.model_line.specs.declared.config.Config.{Config}
+use Rattle.model_line.specs.Line.{repeats_in}
 use Rattle.model_line.specs.Event as line_event
 use Rattle.model_line.specs.Event.{hears, expiry, request, Answer}
 use Rattle.model_line.specs.Request.{Request, Establish, Release, Deactivate, SetBusy, ClearBusy}
@@ -144,10 +145,10 @@ abbrev pub enquires : ℕ → Observed → Observed
 enquires expiries o = record o { state = 8; expiries = expiries }
 
 abbrev pub counted : Config → ℕ
-counted c = by_reading c.reading 0 (min 1 c.n200)
+counted c = by_reading c.reading 0 (min 1 (repeats_in c 8))
 
 abbrev pub may_repeat : Config → Observed → Bool
-may_repeat c o = nat_lt o.expiries c.n200
+may_repeat c o = nat_lt o.expiries (repeats_in c o.state)
 
 abbrev pub by_t200 : Config → Observed → Observed
 by_t200 c o =

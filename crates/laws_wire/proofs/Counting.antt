@@ -8,7 +8,8 @@ use Rattle.std.specs.Prelude.{min}
 use Rattle.lapd_frame.specs.declared.readings.Reading.{Reading}
 use Rattle.lapd_frame.specs.Readings.{by_reading}
 use Rattle.model_link.specs.Events.{Event}
-use Rattle.model_line.specs.Line.{tries}
+use Rattle.model_line.specs.Line.{repeats_in, tries}
+use Rattle.model_link.specs.Link.{most_rc, most_repeats, state_number}
 use Rattle.laws_wire.proofs.Awaited.{state-is, awaits-is, may-here}
 use Rattle.laws_wire.proofs.Simulated.{each-timer, Stand, follows, asked_of, step_of, timer_of, full-at}
 use Rattle.laws_wire.proofs.LossyRun.{setting}
@@ -30,7 +31,7 @@ module _ (t : Terms) (e : Event) (l : Link) (k k' : ℕ) where
   heard = as_heard t e
 
   pub counts-on : is_clearing heard ≡ false → IsBelow l k → (awaits_answer l.state ≡ true → k ≤ k') → (awaits_answer l.state ≡ true → is_time heard l ≡ true → k + 1 ≤ k')
-      → (is_time heard l ≡ true → by_reading t.reading 0 (min 1 t.n200) ≤ k') → IsBelow (after t e l) k'
+      → (is_time heard l ≡ true → by_reading t.reading 0 (min 1 (most_repeats t 8)) ≤ k') → IsBelow (after t e l) k'
   counts-on stays below keeps adds first awaits = grind (arith, event-follows, eqb-true)
 
 -- by annex B the expiry that leads out of state 7 counts
@@ -74,10 +75,10 @@ module _ (service : Service) (tei : ℕ) where
     adds : awaits_answer n.link.state ≡ true → k.near + 1 ≤ more
     adds awaits = subst (λ b. k.near + 1 ≤ cond b (by_reading own.reading 0 1) (k.near + 1)) (sym (seven awaits)) (omega arith)
 
-    first : by_reading n.terms.reading 0 (min 1 n.terms.n200) ≤ more
+    first : by_reading n.terms.reading 0 (min 1 (most_repeats n.terms 8)) ≤ more
     first =
-        subst (λ (t : Terms). by_reading t.reading 0 (min 1 t.n200) ≤ more) (sym (h.stand.near.terms ∙ ap (λ c. terms c service tei) (sym h.stand.near.config)))
-        (first-counted own.reading own.n200 k.near in_7)
+        subst (λ (t : Terms). by_reading t.reading 0 (min 1 (most_repeats t 8)) ≤ more) (sym (h.stand.near.terms ∙ ap (λ c. terms c service tei) (sym h.stand.near.config)))
+        (first-counted own.reading (repeats_in own 8) k.near in_7)
 
     -- an event, at which T200 does not expire, or does
     by-event : (e : Event) → is_clearing (as_heard n.terms e) ≡ false → is_time (as_heard n.terms e) n.link ≡ false → IsBelow (after n.terms e n.link) (cond in_7 0 k.near)
@@ -118,8 +119,8 @@ module _ (service : Service) (tei : ℕ) where
           | inr y ↦ record { ends = two_ends_acting (step_of act) h.ends; stand = y; near = at-end act is; far = far-end act }
         ]
 
-    few : (t : Terms) (l : Link) (k most : ℕ) → l.repeats ≤ k → k + 1 < most → most ≡ t.n200 + 1 → may_repeat t l ≡ true
-    few t l k most low less is = lt-ltb l.repeats t.n200 (omega (arith, low, less, is))
+    few : (t : Terms) (l : Link) (k most : ℕ) → l.repeats ≤ k → k + 1 < most → most ≡ most_rc t + 1 → may_repeat t l ≡ true
+    few t l k most low less is = lt-ltb l.repeats (most_repeats t (state_number l.state)) (omega (arith, low, less, is))
 
     near-timely : (act : EndStep) → IsFullTalkOf service tei act → IsCountedOf act k.near w → IsTimelyOf act w
     near-timely (expires timer) is x =
@@ -128,7 +129,7 @@ module _ (service : Service) (tei : ℕ) where
           x.0,
           may-here service tei c p w.near n h.stand.near (λ awaits.
               few n.terms n.link k.near (tries own) (h.near awaits) (x.1 (awaits-is service tei c p w.near n h.stand.near ∙ awaits))
-              (ap tries h.stand.near.config ∙ ap (λ (t : Terms). t.n200 + 1) (sym h.stand.near.terms))),
+              (ap tries h.stand.near.config ∙ ap (λ (t : Terms). most_rc t + 1) (sym h.stand.near.terms))),
         )) (λ x. tt) timer is x
     near-timely other is x = tt
 

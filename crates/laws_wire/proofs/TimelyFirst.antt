@@ -1,5 +1,6 @@
 -- The ends as an establishment leaves them, and what changes nothing at a station or on a wire.
 use Rattle.laws_wire.proofs.Vocabulary.{◌≡◌, ℕ, ◌≤◌, false, List, [], length, None, refl, sym, ap, subst, inl, inr, arith, All-nil, Service, Terms, given, IsInRange, LinkEndpoint, joined-first, Config, LineTold, request, next, Request, IsReady, IsTaken, Endpoint, Wire, happens, loses, acting, IsAsked, requested, with_link}
+use Rattle.model_link.specs.Link.{most_rc}
 use Rattle.laws_wire.proofs.Calling.{end, called, sound-called}
 use Rattle.laws_wire.proofs.Loose.{Loose}
 use Rattle.laws_wire.proofs.Held.{Held, held-given}
@@ -11,7 +12,7 @@ use Rattle.laws_wire.proofs.TimelyUp.{held-request}
 
 -- ---- the ends
 
-module _ (t u : Terms) (rt : IsInRange t) (ru : IsInRange u) (same : t.n201 ≡ u.n201) (k : Tries) (few : k.repeats ≤ t.n200) where
+module _ (t u : Terms) (rt : IsInRange t) (ru : IsInRange u) (same : t.n201 ≡ u.n201) (k : Tries) (few : k.repeats ≤ most_rc t) where
   abbrev pub near_end : LinkEndpoint
   near_end = end t (answered k []) []
 

@@ -4,6 +4,7 @@ use Rattle.laws_wire.proofs.Vocabulary.{has_outstanding, received}
 use Rattle.laws_wire.proofs.Vocabulary.{requested, expired, offer, course, given, given_of, is_running, begun, frame_given, IsInRange, IsWaitingFrame, LinkEndpoint, frame_of, frames_of, frames-append, kinds-append, has_room, Reports, still, at-first, offer-gave, Calm, Kind, enquiry, report, kind_of, kinds_of, tally, tally-push, one_enquiry, one_answer, one_rejection, line, most, is_recovering}
 use Rattle.laws_wire.proofs.Vocabulary.{Sane, frame, after, Course}
 use Rattle.laws_wire.proofs.Vocabulary.{◌then◌, for_layer_3, LinkClearBusy, LinkEvent, LinkRequest, LinkSetBusy, F, granted, refusal, error_f, renewed, carried-reports, rising-reports, timer-stays, timed-after, heeds-after, expires-goes, IsSound, is_information, Every, every-push, Behind, calm-rise, Grown, IsNotRelease, LinkData, asks-went, no-reports, request-stays}
+use Rattle.model_link.specs.Link.{most_rc}
 use Rattle.model_link.specs.Counts.{with_establishment}
 use Rattle.model_link.specs.Machine
 use Rattle.model_link.specs.Offers
@@ -154,7 +155,7 @@ behind-calm : (ks : List Kind) → Every Calm ks → Behind one_enquiry Calm ks
 behind-calm [] h = tt
 behind-calm (k ∷ ks) h = (λ some. h.1, behind-calm ks h.1)
 
-module _ (t u : Terms) (rt : IsInRange t) (ru : IsInRange u) (same : t.n201 ≡ u.n201) (k : Tries) (few : k.repeats ≤ t.n200) (l : Link) (post : List ControlFrame) (waits : l.waiting ≡ post) (sound : IsSound u l)
+module _ (t u : Terms) (rt : IsInRange t) (ru : IsInRange u) (same : t.n201 ≡ u.n201) (k : Tries) (few : k.repeats ≤ most_rc t) (l : Link) (post : List ControlFrame) (waits : l.waiting ≡ post) (sound : IsSound u l)
     (h : Poised u l post) where
   abbrev n : LinkEndpoint
   n = end t (answered k []) []

@@ -20,7 +20,7 @@ use Rattle.model_link.specs.declared.frames.ControlFrame.{ControlFrame}
 use Rattle.model_link.specs.declared.states.State.{State}
 use Rattle.model_link.specs.declared.timers.LinkTimer.{LinkTimer}
 use Rattle.model_link.specs.declared.terms.Terms.{Terms}
-use Rattle.model_link.specs.Link.{Link, has_outstanding, is_asked, is_peer_busy, is_own_busy, is_rejecting, may_repeat}
+use Rattle.model_link.specs.Link.{Link, has_outstanding, is_asked, is_peer_busy, is_own_busy, is_rejecting, may_repeat, most_repeats, state_number}
 use Rattle.model_link.specs.Steps.{Course, Step, ◌then◌, nothing, depending_on, by_bit}
 use Rattle.model_link.specs.Words.{note, deliver, deliver_unit, leave_unserved, read_as, peer_busy_is, own_busy_is, rejecting_is, pending_is, asked_is, repeats_are, repeated, enter, clear_flags, start, no_timer}
 use Rattle.model_link.specs.Words.{zero_numbers, discard, acknowledge, send_again_from, count_received, begin_anew, send, command, response, rr_or_rnr, enquire, answer, report_receiver_status, reject, error, re_establish, by_number}
@@ -95,7 +95,9 @@ pub rejecting_tells : Tells Alike is_rejecting is_rejecting
 rejecting_tells = record { tells = λ c d h. h.flags.3 }
 
 pub repeat_tells : (t : Terms) → Tells Alike (may_repeat t) (may_repeat t)
-repeat_tells t = record { tells = λ c d h. ap (λ (n : ℕ). nat_lt n t.n200) h.flags.6 }
+repeat_tells t = record {
+  tells = λ c d h. ap (λ (n : ℕ). nat_lt n (most_repeats t (state_number c.link.state))) h.flags.6 ∙ ap (λ (s : State). nat_lt d.link.repeats (most_repeats t (state_number s))) h.flags.0;
+}
 
 pub outstanding_tells : Tells Alike has_outstanding has_outstanding
 outstanding_tells = record { tells = λ c d h. ap not (eq-same c.link.s c.link.a d.link.s d.link.a h.numbers.out) }

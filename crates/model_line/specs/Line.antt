@@ -93,6 +93,10 @@ terms c service tei = record {
   reading = c.reading;
 }
 
+-- How often SABME, DISC or the enquiry may be repeated, in the state of this number (clause 5.9.2): `most_repeats` of each link.
+abbrev pub repeats_in : Config → ℕ → ℕ
+repeats_in c state = c.n200
+
 -- How often a command goes at most until it is answered: once, and N200 times again (clause 5.9.2).
 abbrev pub tries : Config → ℕ
 tries c = c.n200 + 1

@@ -1,12 +1,10 @@
 -- What is read of words that stand in references, and of lines with too many.
-use Rattle.lapd_script.proofs.Vocabulary.{◌≡◌, ℕ, Bool, true, false, cond, List, [], ◌∷◌, length, take, drop, get_or, Some, Ok, Err, Result, Option, refl, sym, ap, ◌∙◌, Bor, arith, IsErr, IsErrAnd, false≢true, FaultKind, BadNumberOfWords, Config, Word, Ask, texts, word_named, carries_octets, read_words, read_after, read_as, card_numbers, for_annex_b, nine_numbers, sapi_numbers, three_numbers}
-use Rattle.lapd_script.proofs.Vocabulary.{side_numbers, for_sapi, more_numbers, names_annex_b, names_sapi}
+use Rattle.lapd_script.proofs.Vocabulary.{◌≡◌, ℕ, Bool, true, false, cond, List, [], ◌∷◌, length, take, drop, get_or, Some, Ok, Err, Result, Option, refl, sym, ap, ◌∙◌, Bor, arith, IsErr, IsErrAnd, false≢true, FaultKind, BadNumberOfWords, Config, Word, Ask, texts, word_named, carries_octets}
 use Rattle.std.specs.Prelude.{◌≤◌, ◌-◌, ◌&&◌, nat_le, bytes_eq, codes, zero, suc}
 use Rattle.lapd_script.specs.declared.word.Word.TheVariants.{Card}
 use Rattle.lapd_script.specs.declared.kind.FaultKind.TheVariants.{UnknownWord}
 use Rattle.lapd_script.specs.Meaning.{card}
-use Rattle.lapd_script.specs.Read.{numbered}
-use Rattle.lapd_script.proofs.Vocabulary.{◌>>=◌}
+use Rattle.lapd_script.specs.Read.{card_numbers, for_annex_b, for_sapi, more_numbers, names_annex_b, names_sapi, nine_numbers, numbered, read_after, read_as, read_words, sapi_numbers, side_numbers, three_numbers, ◌>>=◌}
 
 abbrev pub nowhere : Bor (List ℕ)
 nowhere = record { ref_ptr = (0, 0); now = [] }

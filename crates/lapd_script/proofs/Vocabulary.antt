@@ -34,7 +34,6 @@ pub use Rattle.lapd_script.specs.Job.{Job, frame, job, job_or_none, limits_of, s
 pub use Rattle.lapd_script.specs.Number.{number, within}
 pub use Rattle.lapd_script.specs.Octets.{octets, or_bad}
 pub use Rattle.lapd_script.specs.Pieces.{line_in, pieces_of, with_octet}
-pub use Rattle.lapd_script.specs.Read.{card_numbers, for_annex_b, for_sapi, for_terminal, for_user, is_user, more_numbers, names_annex_b, names_sapi, sapi_numbers, side_numbers, nine_numbers, read_after, read_as, read_words, ten_numbers, three_numbers, ◌>>=◌}
 pub use Rattle.lapd_script.specs.ScriptLines.{Advances, AreLeft, IsReady, Takes, held, left_to_read, too_long_after}
 pub use Rattle.lapd_script.specs.Shown.{IsShown, IsUnshown, ShowsFrame}
 pub use Rattle.lapd_script.specs.Word.{carries_octets, word_named}

@@ -25,7 +25,6 @@ pub use Rattle.lapd_script.specs.Job.{job, job_or_none, limits_of, seen}
 pub use Rattle.lapd_script.specs.Meaning.{into, IsCounted, meant_by, rx}
 pub use Rattle.lapd_script.specs.Number.{number, within}
 pub use Rattle.lapd_script.specs.Octets.{octets}
-pub use Rattle.lapd_script.specs.Read.{card_numbers, duration, durations, for_annex_b, for_sapi, for_terminal, for_user, four_durations, is_user, line_of, more_numbers, nine_numbers, read, read_as, read_words, sapi_numbers, side_numbers, ten_numbers, three_numbers}
 pub use Rattle.lapd_script.specs.Shown.{IsUnshown, ShowsFrame}
 pub use Rattle.lapd_script.specs.Words.{texts}
 pub use Rattle.lapd_script.specs.declared.word.Word.TheVariants.{Ask, Failed, In, Pull, Rx}

@@ -1,7 +1,8 @@
 //! Reads a line of a script.
 
 ghost use Rattle.std.specs.Prelude.{◌≡◌, ◌*◌, ◌/◌, ◌≤◌, ℕ, List, [], ◌∷◌, take, drop, length, codes, bytes_eq, All, Ok, Err, IfOk, MatchResult};
-ghost use Rattle.lapd_script.specs.{texts, rx, into, meant_by, IsCounted, read, read_words, read_as, duration, durations, four_durations, card_numbers, for_annex_b, for_sapi, for_terminal, for_user, is_user, line_of, more_numbers, nine_numbers, sapi_numbers, side_numbers, ten_numbers, three_numbers, Rx, In, Failed, Pull, Ask};
+ghost use Rattle.lapd_script.specs.{texts, rx, into, meant_by, IsCounted, Rx, In, Failed, Pull, Ask};
+ghost use Rattle.lapd_script.specs.Read.{read, read_words, read_as, duration, durations, four_durations, card_numbers, for_annex_b, for_sapi, for_terminal, for_user, is_user, line_of, more_numbers, nine_numbers, sapi_numbers, side_numbers, ten_numbers, three_numbers};
 
 use crate::command::{Asked, Command, Durations};
 use crate::kind::FaultKind;

@@ -1,5 +1,6 @@
 -- Hand-written answers for `card_numbers`.
-use Rattle.lapd_script.proofs.Vocabulary.{arith, length, refl, ap, sym, ◌∙◌, for_annex_b}
+use Rattle.lapd_script.proofs.Vocabulary.{arith, length, refl, ap, sym, ◌∙◌}
+use Rattle.lapd_script.specs.Read.{for_annex_b}
 use Rattle.lapd_script.proofs.ReadLemmas.{annex_b_read}
 use Rattle.lapd_script.proofs.read.card_numbers.Goals as goal
 

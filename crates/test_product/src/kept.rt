@@ -13,7 +13,7 @@ use lapd_card::{Card, Event, Kept, SinkFault};
 use lapd_store::Shelf;
 
 /// Runs a list of events with a sink that keeps replies. After `Ok` it has kept every answer of the run, whole and in
-/// order, beside what it had before; after a fault exactly the answers before the one that it missed.
+/// order, beside what it had before. After a fault it has kept exactly the answers before the one that it missed.
 ///
 /// # Errors
 ///

@@ -1,12 +1,12 @@
 -- After noise an end hears again just what the other gave. Few bits are left at a port, if the frames that were put there are short.
-use Rattle.laws_time.proofs.Vocabulary.{All-weaker, All-replicate, All, All-cons, All-head, All-nil, All-tail, Bool, IsCut, Item, List, Option, Port, Some, [], after_flag, all-right, ap, append-nil, append_assoc, append_cancel_left, arith, bits, bits-append, cases_lt, flag, flat_map, flat_map-append, frame, frame_text, frames_among, gained, heard_in, heard_until, heard_until-onto, heard_with}
+use Rattle.laws_time.proofs.Vocabulary.{All-weaker, All-replicate, All, All-cons, All-head, All-nil, All-tail, Bool, IsCut, Item, List, Port, Some, [], after_flag, all-right, ap, append-nil, append_assoc, append_cancel_left, arith, bits, bits-append, cases_lt, flag, flat_map, flat_map-append, frame, frame_text, frames_among, gained, heard_in, heard_until, heard_until-onto, heard_with}
 use Rattle.laws_time.proofs.Vocabulary.{idle, inl, inr, item_octets}
 use Rattle.laws_time.proofs.Vocabulary.{item_text, left_of, length, length-append, length-bits, length-check, length-drop, line_text, longest, longest_text, option_to_list, refl, replicate, reverse_aux, reverse_aux-append, reverse_aux-onto, room_for, subst, suc, sym, zero, ℕ, ◌*◌, ◌++◌, ◌+◌, ◌<◌, ◌∙◌, ◌∷◌, ◌≡◌, ◌≤◌, ◌⊎◌}
 use Rattle.model_bits.specs.Stream as stream
 use Rattle.model_bits.proofs.RoundTripPlaces.{hears}
 use Rattle.laws_time.proofs.OfCircuit.Words.{Fine, stuffed-longest}
 use Rattle.laws_time.proofs.OfCircuit.AnsweredBits.{longer-begins, Comes, all_sent}
-use Rattle.laws_time.proofs.OfCircuit.ArrivWay.{hears-same, bits-flags, gained-there}
+use Rattle.laws_time.proofs.OfCircuit.ArrivWay.{hears-same, bits-flags, one-of-two, gained-there}
 
 -- ---- so few bits are left of frames that are so short
 
@@ -44,9 +44,6 @@ frames-small m (frame octets ∷ items) h =
 -- ---- after noise an end hears again what the other gave: with each octet just that
 
 -- ---- what came before a flag does not matter
-
-one-of-two : {A : Type 0} (o e : Option A) → option_to_list o ≡ option_to_list e → o ≡ e
-one-of-two o e h1z = grind arith
 
 module _ (n201 : ℕ) (S : List ℕ) (value : ℕ) (u part : List Bool) (stands : bits S ≡ u ++ (flag ++ part)) where
   abbrev place : List ℕ → List Bool
@@ -126,9 +123,6 @@ all-texts m = All-weaker (λ item. item_octets item ≤ m + 4) (λ item. length 
 
 module _ (n201 m way k : ℕ) (p : Port) (value : ℕ) (more : List ℕ) (q : Port) (h : Fine n201 p) (c : Comes way k p (value ∷ more) q) (small : All (λ item. item_octets item ≤ m + 4) p.items)
     (enough : (k + (longest m + 1) ≤ length c.before + length c.as_sent) ⊎ (q.received ≡ c.before ++ c.as_sent)) where
-  abbrev F : List Bool
-  F = flat_map item_text (replicate way idle)
-
   abbrev all_items : List Item
   all_items = replicate way idle ++ p.items
 

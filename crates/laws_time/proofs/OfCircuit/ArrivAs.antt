@@ -165,7 +165,7 @@ module _ (service : Service) (tei : ℕ) (c : Config) (ranged : IsInRange c) (a 
       let b = due-becomes there a.at ts heard due in
       record {
         there' = (wire.happens line.next (as_endpoint there a.at)).way;
-        goes' = pulled-way c ranged a.at ran there true due goes;
+        goes' = pulled-way c ranged a.at ran there goes true due;
         ts' = b.ts;
         heard' = b.heard;
         path = path-one service tei sends tt (record { near = station there ts a.at; far = y })
@@ -175,7 +175,7 @@ module _ (service : Service) (tei : ℕ) (c : Config) (ranged : IsInRange c) (a 
       let b = undue-becomes there a.at ts heard due in
       record {
         there' = there;
-        goes' = pulled-way c ranged a.at ran there false due goes;
+        goes' = pulled-way c ranged a.at ran there goes false due;
         ts' = b.ts;
         heard' = b.heard;
         path = path-none service tei (record { near = station there ts a.at; far = y }) (record { near = station there b.ts (happens_pulled port.pull a).at; far = y }) (λ i. record { near = b.is i; far = y });
@@ -218,7 +218,7 @@ module _ (service : Service) (tei : ℕ) (c d : Config) (ranged_far : IsInRange 
     here o is = ap (λ (k : Config). gained k.n201 (port_of a.at).received (unwrap_or noise value)) config ∙ is
 
     -- No frame is gained.
-    still : (o : Option stream.Event) → gained c.n201 (port_of a.at).received (unwrap_or noise value) ≡ o → ((e : stream.Event) → o ≡ Some e → IsFrame e → ⊥) → Becomes (station there ts a.at) there u_heard
+    still : (o : Option stream.Event) → gained c.n201 (port_of a.at).received (unwrap_or noise value) ≡ o → IsNoFrame o → Becomes (station there ts a.at) there u_heard
     still None is nay = none-becomes (unwrap_or noise value) there a.at ts heard (here None is)
     still (Some (stream.dropped cause)) is nay = dropped-becomes (unwrap_or noise value) there a.at ts heard cause (here (Some (stream.dropped cause)) is)
     still (Some (stream.frame octets)) is nay = absurd (nay (stream.frame octets) refl tt)
@@ -230,39 +230,31 @@ module _ (service : Service) (tei : ℕ) (c d : Config) (ranged_far : IsInRange 
     pub hears-one : Hears (value ∷ more)
     hears-one = go (comes c.n201 d ranged_far size other ran back value more goes (gained c.n201 (port_of a.at).received (unwrap_or noise value)) clear)
       where
-        no-frame : (o : Option stream.Event) → IsNoFrame o → (e : stream.Event) → o ≡ Some e → IsFrame e → ⊥
-        no-frame None none e is so = cc is
-        no-frame (Some (stream.dropped cause)) none (stream.dropped other_cause) is so = so
-        no-frame (Some (stream.dropped cause)) none (stream.frame octets) is so = cc is
-        no-frame (Some (stream.dropped cause)) none (stream.overlong head) is so = cc is
-        no-frame (Some (stream.frame octets)) none e is so = none
-        no-frame (Some (stream.overlong head)) none e is so = none
-
         go : (Comes c.n201 d ranged_far size other ran back value more goes (gained c.n201 (port_of a.at).received (unwrap_or noise value)) clear) → Hears (value ∷ more)
-        go (inl x) =
-            let b = still o refl (no-frame o x.none) in
-            record { left = back; goes = x.goes; ts' = b.ts; heard' = b.heard; path = path-none service tei before (with (station there b.ts u_heard) back) (ap (λ s. with s back) b.is) }
-        go (inr (inl x)) =
-            let b = still o refl (no-frame o x.none) in
+        go (inl (none, goes)) =
+            let b = still o refl none in
+            record { left = back; goes = goes; ts' = b.ts; heard' = b.heard; path = path-none service tei before (with (station there b.ts u_heard) back) (ap (λ s. with s back) b.is) }
+        go (inr (first, left, are, goes, inl none)) =
+            let b = still o refl none in
             record {
-              left = x.left;
-              goes = x.goes;
+              left = left;
+              goes = goes;
               ts' = b.ts;
               heard' = b.heard;
-              path = path-turned service tei (turned before) (turned (with (station there b.ts u_heard) x.left))
-                  (path-one service tei loses tt (turned before) (turned (with (station there b.ts u_heard) x.left)) tt (λ i. record { near = record y { way = drop 1 (x.are i) }; far = b.is i }));
+              path = path-turned service tei (turned before) (turned (with (station there b.ts u_heard) left))
+                  (path-one service tei loses tt (turned before) (turned (with (station there b.ts u_heard) left)) tt (λ i. record { near = record y { way = drop 1 (are i) }; far = b.is i }));
             }
-        go (inr (inr x)) =
-            let e = stream.frame x.frame_is in let b = frame-becomes (unwrap_or noise value) there a.at ts heard e (here (Some e) x.gains) in
-            let whole : came a.at.card.card.config.n201 x.frame_is ≡ stream.frame x.frame_is = ap (λ (k : Config). came k.n201 x.frame_is) config ∙ x.whole in
+        go (inr (first, left, are, goes, inr (gains, whole))) =
+            let e = stream.frame first in let b = frame-becomes (unwrap_or noise value) there a.at ts heard e (here (Some e) gains) in
+            let whole_here : came a.at.card.card.config.n201 first ≡ stream.frame first = ap (λ (k : Config). came k.n201 first) config ∙ whole in
             record {
-              left = x.left;
-              goes = x.goes;
+              left = left;
+              goes = goes;
               ts' = b.ts;
               heard' = b.heard;
-              path = path-one service tei receives tt before (with (station there b.ts u_heard) x.left) tt
-                  ((λ i. record { near = wire.with_first_of (x.are i) (station there ts a.at); far = record y { way = drop 1 (x.are i) } })
-                  ∙ ap (λ s. with s x.left) (ap (λ e. wire.happens (line.hears e) (station there ts a.at)) whole ∙ b.is));
+              path = path-one service tei receives tt before (with (station there b.ts u_heard) left) tt
+                  ((λ i. record { near = wire.with_first_of (are i) (station there ts a.at); far = record y { way = drop 1 (are i) } })
+                  ∙ ap (λ s. with s left) (ap (λ e. wire.happens (line.hears e) (station there ts a.at)) whole_here ∙ b.is));
             }
 
   pub hears-so : (way : List ℕ) (n : ℕ) → length way ≡ n + 1 → (goes : Going c.n201 (port_of other) way back)

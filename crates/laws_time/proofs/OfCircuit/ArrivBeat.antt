@@ -1,6 +1,6 @@
 -- A beat of the clocked circuit is done on a wire of frames, and T200 is long enough there.
-use Rattle.laws_time.proofs.Vocabulary.{All, All-cons, All-head, All-nil, All-tail, All-weaker, AreAsked, AreClear, AreOctets, Beat, Clocked, Establish, FrameEndpoint, HasNo, IsAsked, IsAskedOfLink, IsClearAt, IsFit, IsOfLink, IsTalk, Line, LineTold, LinkEndpoint, List, Option, Port, Request, StationStands, TimedEndpoint, Wire, [], after, all_due, answered_in, ap, append-nil, arith}
-use Rattle.laws_time.proofs.Vocabulary.{asked, asks, beat, calls, comes_to, drop, flags, fold, fresh_port, gone, happens, hears, is_final, length, port_of, refl, subst, sym, unwrap_or, ℕ, ◌*◌, ◌+◌, ◌/◌, ◌∙◌, ◌∷◌, ◌≡◌, ◌≤◌}
+use Rattle.laws_time.proofs.Vocabulary.{All, All-cons, All-head, All-nil, All-tail, All-weaker, AreAsked, AreClear, Beat, Clocked, Establish, FrameEndpoint, HasNo, IsAsked, IsAskedOfLink, IsClearAt, IsFit, IsOfLink, IsTalk, Line, LineTold, LinkEndpoint, List, Option, Request, StationStands, TimedEndpoint, Wire, [], after, all_due, answered_in, ap, arith}
+use Rattle.laws_time.proofs.Vocabulary.{asked, asks, beat, calls, comes_to, drop, fold, gone, happens, hears, is_final, length, port_of, refl, subst, sym, unwrap_or, ℕ, ◌*◌, ◌+◌, ◌/◌, ◌∷◌, ◌≡◌, ◌≤◌}
 use Rattle.model_card.specs.ports.Port as port
 use Rattle.model_line.specs.Event as line
 use Rattle.laws_wire.specs.Wire as wire
@@ -246,17 +246,6 @@ fair-before rate b w fair =
 pub fair-all : (rate : ℕ) (bs : List Beat) (w : Clocked) → IsFairBoth (after rate bs w) → IsFairBoth w
 fair-all rate [] w fair = fair
 fair-all rate (b ∷ bs) w fair = fair-before rate b w (fair-all rate bs (beat rate w b) fair)
-
--- As the circuit begins, flags are in transit.
-pub first-going : (n201 : ℕ) (p : Port) (way flags : List ℕ) → p ≡ fresh_port → way ≡ flags → Going n201 p way []
-first-going n201 p way flags is same = subst (λ p. Going n201 p way []) (sym is) (record {
-  flags = flags;
-  rest = [];
-  before = [];
-  carries = record { given = refl; are = refl; octets = All-nil AreOctets };
-  way_is = same ∙ sym (append-nil flags);
-  first = λ some. refl;
-})
 
 module _ (l : Line) (fit : IsFit l) where
   of-call : (r : Request) → IsAsked l r → IsOfLink l.service l.tei r

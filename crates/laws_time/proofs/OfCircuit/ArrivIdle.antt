@@ -1,7 +1,7 @@
 -- Before the call nothing is asked: no frame goes, no timer runs, and nothing is told but what noise makes.
 use Rattle.laws_time.proofs.Vocabulary.{All, All-nil, AreAsked, AreClear, Beat, Clocked, Config, Establish, FrameEndpoint, IsClearAt, IsFit, IsFrame, IsIdle as AsksNothing, IsInRange, IsOfLink, IsTalk, Lengths, Line, List, None, OctetEndpoint, Option, Ran, Request, Service, Some, StationStands, TimedEndpoint, [], after, answered, ap, append-nil, arith, as_endpoint}
-use Rattle.laws_time.proofs.Vocabulary.{asked, at, beat, begins, calls, comes_to, cond, drop, endpoint, fall_due, false, flags, fold-append, fresh_link, gained, gave, gives-none, gone, happens, hears, inl, inr, is_due, length, line_after, line_answer, next, obeyed, octet_at, octet_orders, option_map, orders_in, port_of, refl, set-get_or, stopped, subst, sym, takes_slot, true, unwrap_or, ℕ, ◌++◌}
-use Rattle.laws_time.proofs.Vocabulary.{◌+◌, ◌/◌, ◌<◌, ◌∙◌, ◌∷◌, ◌≡◌, ◌≤◌, by-bool}
+use Rattle.laws_time.proofs.Vocabulary.{asked, at, beat, begins, calls, comes_to, cond, drop, endpoint, fall_due, false, flags, fold-append, fresh_link, gained, gave, gives-none, gone, happens, hears, is_due, length, line_after, line_answer, next, obeyed, octet_at, octet_orders, option_map, orders_in, port_of, refl, set-get_or, stopped, subst, sym, takes_slot, true, unwrap_or, ℕ, ◌++◌}
+use Rattle.laws_time.proofs.Vocabulary.{◌+◌, ◌/◌, ◌<◌, ◌∙◌, ◌∷◌, ◌≡◌, ◌≤◌, by-bool, by-either, some-in}
 use Rattle.model_bits.specs.Stream as stream
 use Rattle.model_line.specs.Event as line
 use Rattle.model_card.specs.Machine as machine
@@ -12,8 +12,8 @@ use Rattle.laws_order.specs.circuit.Circuit as circuit
 use Rattle.laws_wire.proofs.Beginning.{answers}
 use Rattle.laws_time.proofs.OfCircuit.Words.{Pair, at_time, bare, begins_of, clear-keeps, clear-parts, far-gone, fit-turned, near-comes, near-gone, none-ordered, orders-are, pair-begins, pair-then, pair-turned, port-is, station-is, turned_beat, turned_line, turned_world, way-is}
 use Rattle.laws_time.proofs.OfCircuit.ArrivAs.{station, heard_of, Becomes, none-becomes, dropped-becomes, due-becomes, undue-becomes, heard-port}
-use Rattle.laws_time.proofs.OfCircuit.ArrivWay.{Going, IsNoFrame, Comes, comes, pulled-way, going-with}
-use Rattle.laws_time.proofs.OfCircuit.ArrivBeat.{Reached, IsFairBoth, first-going, reached-by-from}
+use Rattle.laws_time.proofs.OfCircuit.ArrivWay.{Going, IsNoFrame, comes, pulled-way, going-with, first-flow}
+use Rattle.laws_time.proofs.OfCircuit.ArrivBeat.{Reached, IsFairBoth, reached-by-from}
 
 -- A call for the next frame that gives none leaves the station.
 pub untaken : (s : FrameEndpoint) → wire.answered next s ≡ gave None → wire.happens next s ≡ s
@@ -60,13 +60,13 @@ module _ (service : Service) (c : Config) (ranged : IsInRange c) (number tei : �
     pulls-idle = by-bool (is_due (port_of a.at)) (λ due.
         let b = due-becomes [] a.at first.told h.heard due in let same = untaken x gives in let way : (wire.happens next (as_endpoint [] a.at)).way ≡ [] = ap (λ a. wire.frames_by a) gives in
         let orders = orders-are (octet_at a.at.line port.pull) a.at.card (Some next) (ap (λ b. cond b (Some next) None) due) ∙ ap orders_in gives in
-        let there = pulled-way c ranged a.at ran [] true due goes in (
+        let there = pulled-way c ranged a.at ran [] goes true due in (
           becomes-idle a port.pull h orders (record { ts = b.ts; is = sym same ∙ b.is ∙ ap (λ w. station w b.ts (happens port.pull a).at) way; heard = b.heard }),
           subst (Going c.n201 (port_of (happens port.pull a).at) (happens port.pull a).at.way) way there,
         ))
         (λ due.
         let orders = orders-are (octet_at a.at.line port.pull) a.at.card None (ap (λ b. cond b (Some next) None) due) in
-        (becomes-idle a port.pull h orders (undue-becomes [] a.at first.told h.heard due), pulled-way c ranged a.at ran [] false due goes))
+        (becomes-idle a port.pull h orders (undue-becomes [] a.at first.told h.heard due), pulled-way c ranged a.at ran [] goes false due))
 
   -- An octet comes.
   module _ (d : Config) (ranged_far : IsInRange d) (size : d.n201 ≡ c.n201) (a : TimedEndpoint) (config : a.at.card.card.config ≡ c) (h : IsIdle c number tei a)
@@ -91,20 +91,13 @@ module _ (service : Service) (c : Config) (ranged : IsInRange c) (number tei : �
           becomes-idle a (port.octet got) h
           (orders-are (octet_at a.at.line (port.octet got)) a.at.card (Some (line.hears (stream.dropped cause))) (ap (option_map line.hears) (here (Some (stream.dropped cause)) is)) ∙ dropped-orders cause)
           (dropped-becomes got [] a.at first.told h.heard cause (here (Some (stream.dropped cause)) is))
-      still (Some (stream.frame octets)) is none = absurd none
-      still (Some (stream.overlong head)) is none = absurd none
-
-      never : (P : Type 0) (f : List ℕ) (fs : List (List ℕ)) → [] ≡ f ∷ fs → P
-      never P f fs is = absurd (cc is)
+      still (Some (stream.frame octets)) is none = absurd (none (stream.frame octets) refl tt)
+      still (Some (stream.overlong head)) is none = absurd (none (stream.overlong head) refl tt)
 
       hears-one : IsIdle c number tei (happens (port.octet (unwrap_or noise value)) a) × Going c.n201 (port_of other) more []
-      hears-one = go (comes c.n201 d ranged_far size other ran [] value more goes (gained c.n201 (port_of a.at).received (unwrap_or noise value)) clear)
-        where
-          go : Comes c.n201 d ranged_far size other ran [] value more goes (gained c.n201 (port_of a.at).received (unwrap_or noise value)) clear
-              → IsIdle c number tei (happens (port.octet (unwrap_or noise value)) a) × Going c.n201 (port_of other) more []
-          go (inl y) = (still (gained c.n201 (port_of a.at).received got) refl y.none, y.goes)
-          go (inr (inl y)) = never _ y.lost y.left y.are
-          go (inr (inr y)) = never _ y.frame_is y.left y.are
+      hears-one =
+          by-either (comes c.n201 d ranged_far size other ran [] value more goes (gained c.n201 (port_of a.at).received (unwrap_or noise value)) clear)
+          (λ y. (still (gained c.n201 (port_of a.at).received got) refl y.0, y.1)) (λ y. absurd (some-in [] y.0 y.1 y.2))
 
     pub hears-idle : (way : List ℕ) (n : ℕ) → length way ≡ n + 1 → Going c.n201 (port_of other) way []
         → ((value : ℕ) (more : List ℕ) (e : stream.Event) → way ≡ value ∷ more → gained c.n201 (port_of a.at).received (unwrap_or noise value) ≡ Some e → IsFrame e
@@ -124,6 +117,10 @@ idle-first c tei number way ranged within lengths =
       none_run = ap (λ os. (obeyed number os (stopped lengths)).running) (none-ordered c ranged number tei way within);
     }
 
+going-first : (c : Config) (ranged : IsInRange c) (tei number way : ℕ) (within : number < c.lines) (lengths : Lengths) → let s = endpoint c number lengths way tei in Going c.n201 (port_of s.at) s.at.way []
+going-first c ranged tei number way within lengths =
+    let s = endpoint c number lengths way tei in record { flags = way; before = []; flow = first-flow c.n201 way (port_of s.at) s.at.way [] (port-is c ranged number tei way within) refl (way-is c ranged number tei way within) }
+
 module _ (l : Line) (fit : IsFit l) where
   -- Nothing was asked for.
   pub record IdleNow (w : Clocked) : Type 0 where
@@ -138,10 +135,8 @@ module _ (l : Line) (fit : IsFit l) where
     pair = pair-begins l (begins_of fit);
     near = idle-first l.near l.tei l.near_line l.way fit.call.near.0 fit.call.near.1 l.lengths;
     far = idle-first l.far l.tei l.far_line l.way fit.call.far.0 fit.call.far.1 l.far_lengths;
-    goes = first-going l.near.n201 (port_of (endpoint l.near l.near_line l.lengths l.way l.tei).at) (endpoint l.near l.near_line l.lengths l.way l.tei).at.way (flags l.way)
-        (port-is l.near fit.call.near.0 l.near_line l.tei l.way fit.call.near.1) (way-is l.near fit.call.near.0 l.near_line l.tei l.way fit.call.near.1);
-    comes = first-going l.far.n201 (port_of (endpoint l.far l.far_line l.far_lengths l.way l.tei).at) (endpoint l.far l.far_line l.far_lengths l.way l.tei).at.way (flags l.way)
-        (port-is l.far fit.call.far.0 l.far_line l.tei l.way fit.call.far.1) (way-is l.far fit.call.far.0 l.far_line l.tei l.way fit.call.far.1);
+    goes = going-first l.near fit.call.near.0 l.tei l.near_line l.way fit.call.near.1 l.lengths;
+    comes = going-first l.far fit.call.far.0 l.tei l.far_line l.way fit.call.far.1 l.far_lengths;
   }
 
   nothing-talks : (b : Beat) → AsksNothing b → IsTalk l b

@@ -10,7 +10,7 @@ use Rattle.laws_wire.specs.Wire as wire
 use Rattle.laws_wire.specs.Wire.{answered, told_by}
 use Rattle.laws_time.specs.circuit.LongEnough.{is_of}
 use Rattle.laws_time.proofs.OfCircuit.ArrivAs.{station, heard_of, Becomes, asked-becomes, expired-becomes, Path, path-none, path-both, path-one}
-use Rattle.laws_time.proofs.OfCircuit.ArrivWay.{Going, going-with, before-long}
+use Rattle.laws_time.proofs.OfCircuit.ArrivWay.{Going, going-with, before-long, past-flags}
 use Rattle.laws_time.proofs.OfCircuit.Words.{EndOk, Ends, Goes, IsOwn, RunsOurs, Sends, asks as asks_frame, asks-goes, bare, due-is, expired-reply, falls-keep, fell-goes, fine, first-of, fold-keeps, given-short, half, last-is, out, own-timer, ring, soon-then, text, text-kind, text_length}
 use Rattle.laws_time.proofs.OfCircuit.Sender.{WaitIn}
 
@@ -91,7 +91,7 @@ module _ (c : Config) (service : Service) (tei : ℕ) (ranged : IsInRange c) whe
 
   module _ (s : OctetEndpoint) (h : Ends c service tei 0 ranged s) (way : List ℕ) (there : List (List ℕ)) (goes : Going c.n201 (port_of s) way there) where
     pub are-own : All (IsOwn c service tei 0 ranged) there
-    are-own = all-behind Own (frames_among (port_of s).items) (heard_in c.n201 goes.before) there goes.carries.are h.frames
+    are-own = all-behind Own (frames_among (port_of s).items) (heard_in c.n201 goes.before) there goes.flow.are h.frames
 
     pub stands : (ts : List LineTold) → StationStands c service tei 0 (station there ts s) (record (bare c service tei 0 ranged h.its) { way = parts there are-own })
     stands ts = record {
@@ -105,12 +105,15 @@ module _ (c : Config) (service : Service) (tei : ℕ) (ranged : IsInRange c) whe
     }
 
     -- All of a kind was given before what is in transit.
-    module _ (kind : Bool → Control → Bool) (most : ℕ) (ok : Sends c.n201 (is_of kind c) most (port_of s) (ring c service tei 0 ranged h.its)) (late : most < length goes.before) where
+    module _ (kind : Bool → Control → Bool) (most : ℕ) (ok : Sends c.n201 (is_of kind c) most (port_of s) (ring c service tei 0 ranged h.its)) (late : goes.flags + most < length goes.before) where
       abbrev IsNot : List ℕ → Type 0
       IsNot o = is_of kind c o ≡ false
 
+      come : (x : List ℕ) × Carries c.n201 (port_of s) way x there × (most < length x)
+      come = past-flags c.n201 (port_of s) way there goes (fine c service tei 0 ranged s h).sound most late
+
       given-long : most + 1 ≤ length (port_of s).given
-      given-long = let all = ap length goes.carries.given ∙ length-append goes.before goes.rest in omega (arith, all, late)
+      given-long = let all = ap length come.1.given ∙ length-append come.0 way in let long = come.2 in omega (arith, all, long)
 
       text-long : 8 * (most + 1) ≤ text_length (port_of s).items
       text-long = let short = given-short c.n201 (port_of s) (fine c service tei 0 ranged s h) in let long = given-long in omega (arith, short, long)
@@ -177,7 +180,7 @@ module _ (c : Config) (service : Service) (tei : ℕ) (ranged : IsInRange c) whe
       pub has-none : HasNo kind (record (bare c service tei 0 ranged h.its) { way = parts there are-own })
       has-none = record {
         waiting = none-waits (text_length (port_of s).items) h.its.waiting text-long ok.wait sound.frames;
-        way = none-parts there are-own (none-of-way goes.rest goes.before there goes.carries late);
+        way = none-parts there are-own (none-of-way way come.0 there come.1 come.2);
       }
 
 -- ---- what layer 3 asks at an end of the clocked circuit, and what falls due there, is done at the station for which it stands, where T200 is

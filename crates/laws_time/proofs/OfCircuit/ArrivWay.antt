@@ -1,7 +1,7 @@
 -- One direction of the clocked circuit, where what comes may be noise. What came before a flag does not matter, and flags before a text are not heard.
-use Rattle.laws_time.proofs.Vocabulary.{All, AreHeardWhole, AreOctets, Bool, Carries, Config, IsFrame, IsInRange, IsSoundPort, List, NextFrame, None, OctetEndpoint, OneHeard, Option, Port, Ran, Some, [], after_flag, answer, answer_to, ap, append-nil, append_assoc, append_cancel_left, append_cancel_right, arith, as_endpoint, bits, bits-append, came, cases_lt, cond, drop, ends_flag, false, flag}
+use Rattle.laws_time.proofs.Vocabulary.{All, AreHeardWhole, AreOctets, Bool, Carries, Config, IsFrame, IsInRange, IsSoundPort, List, NextFrame, None, OctetEndpoint, Option, Port, Ran, Some, [], after_flag, answer, answer_to, ap, append-nil, append_assoc, append_cancel_left, append_cancel_right, arith, as_endpoint, bits, bits-append, came, cases_lt, cond, ends_flag, false, flag}
 use Rattle.laws_time.proofs.Vocabulary.{flags, flat_map, frames_among, frames_of, frames_round_trip_lem, gained, given_in, gives-octets, heard_at, heard_in, heard_until, heard_until-onto, heard_with, idle, if_meant, inl, inr, is_due, item_of, item_text, length, length-append, length-bits, length-replicate, line_answer, low_bits, meant, min, next_octet, none-heard, on-line, one-heard, one-put}
-use Rattle.laws_time.proofs.Vocabulary.{option_map, option_to_list, port-after, port_of, refl, replicate, reverse_aux, reverse_aux-append, room_for, since_flag, sound-port, subst, suc, sym, takes_slot, true, with_item, with_octet, within-ports, zero, ℕ, ◌++◌, ◌+◌, ◌<◌, ◌∙◌, ◌∷◌, ◌≡◌, ◌≤◌, ◌⊎◌}
+use Rattle.laws_time.proofs.Vocabulary.{option_map, option_to_list, port-after, port_of, refl, replicate, reverse_aux, reverse_aux-append, room_for, since_flag, sound-port, subst, suc, sym, takes_slot, true, with_item, with_octet, within-ports, zero, ℕ, ◌++◌, ◌+◌, ◌<◌, ◌∙◌, ◌∷◌, ◌≡◌, ◌≤◌, ◌⊎◌, All-nil, none-some, same_Some, framed, by-either, by-option, some-in, IsOnItsWay, fresh_port, left_of}
 use Rattle.model_bits.specs.Stream as stream
 use Rattle.model_line.specs.Event as line
 use Rattle.model_card.specs.Event as frames
@@ -64,6 +64,9 @@ part-of (suc n) (a ∷ x) m is = go (cc is) (part-of n x m (cc is))
     go : 0x7E ≡ a → x ≡ replicate (length x) 0x7E → a ∷ x ≡ 0x7E ∷ replicate (length x) 0x7E
     go same rest = λ i. sym same i ∷ rest i
 
+pub one-of-two : {A : Type 0} (o e : Option A) → option_to_list o ≡ option_to_list e → o ≡ e
+one-of-two o e h1z = grind arith
+
 module _ (n201 : ℕ) where
   pub flags-silent : (n : ℕ) → heard_in n201 (replicate n 0x7E) ≡ []
   flags-silent zero = refl
@@ -99,12 +102,14 @@ module _ (n201 : ℕ) where
       let all : bits (a ∷ x) ++ (bits more ++ left) ≡ flag ++ t = grind (arith, append_assoc, bits, bits-append) in let long = length-bits (a ∷ x) in
       let r = longer-begins flag t (bits (a ∷ x)) (bits more ++ left) (sym all) (omega (arith, long)) in inr (r.0, r.1)
 
-  same-gain : (H : List stream.Event) (e : stream.Event) (o : Option stream.Event) → H ++ option_to_list o ≡ H ++ e ∷ [] → o ≡ Some e
-  same-gain h e h' is = grind (arith, append_cancel_left)
-
-  none-gained : (H : List stream.Event) (e : stream.Event) → [] ≡ H ++ e ∷ [] → ⊥
-  none-gained [] e is = cc is
-  none-gained (h ∷ H) e is = cc is
+  -- So an octet brings the same behind flags.
+  pub flags-gained : (k : ℕ) (g x : List ℕ) (value : ℕ) (more : List ℕ) (left t : List Bool) → bits g ++ left ≡ flag ++ t → g ≡ x ++ value ∷ more
+      → gained n201 (replicate k 0x7E ++ x) value ≡ gained n201 x value
+  flags-gained k g x value more left t text is =
+      let F = replicate k 0x7E in let behind = option_to_list (gained n201 (F ++ x) value) in
+      one-of-two (gained n201 (F ++ x) value) (gained n201 x value) (append_cancel_left (heard_in n201 x) behind (option_to_list (gained n201 x value))
+      (ap (λ h. h ++ behind) (sym (flags-before k x (begins-so g x (value ∷ more) left t text is))) ∙ sym (heard_with n201 (F ++ x) value) ∙ ap (heard_in n201) (append_assoc F x (value ∷ []))
+      ∙ flags-before k (x ++ value ∷ []) (begins-so g (x ++ value ∷ []) more left t text (is ∙ sym (append_assoc x (value ∷ []) more))) ∙ heard_with n201 x value))
 
   -- What is heard after the flags of the beginning stood in what was given.
   pub gained-there : (way : ℕ) (g x : List ℕ) (value : ℕ) (more : List ℕ) (left t : List Bool) (e : stream.Event) → bits g ++ left ≡ flag ++ t → replicate way 0x7E ++ g ≡ x ++ (value ∷ more)
@@ -115,30 +120,50 @@ module _ (n201 : ℕ) where
       go (inl few) =
           let long = length-append x (value ∷ []) in let all : length (flags way) ≡ way = length-replicate {A = ℕ} way 0x7E in
           let r = longer-begins (x ++ value ∷ []) more (replicate way 0x7E) g (append_assoc x (value ∷ []) more ∙ sym is) (omega (arith, few, long, all)) in
-          let silent = ap (heard_in n201) (part-of way (x ++ value ∷ []) r.0 r.1) ∙ flags-silent (length (x ++ value ∷ [])) in absurd (none-gained (heard_in n201 x) e (sym silent ∙ (heard_with n201 x value ∙ ap (λ o. heard_in n201 x ++ option_to_list o) gains)))
+          let silent = ap (heard_in n201) (part-of way (x ++ value ∷ []) r.0 r.1) ∙ flags-silent (length (x ++ value ∷ [])) in absurd (some-in (heard_in n201 x) e [] (sym silent ∙ (heard_with n201 x value ∙ ap (λ o. heard_in n201 x ++ option_to_list o) gains)))
       go (inr many) =
-          let all : length (flags way) ≡ way = length-replicate {A = ℕ} way 0x7E in let r = longer-begins (replicate way 0x7E) g x (value ∷ more) is (omega (arith, many, all)) in let before = r.0 in
-          let first = flags-before way before (begins-so g before (value ∷ more) left t text r.2) in
-          let then = flags-before way (before ++ value ∷ []) (begins-so g (before ++ value ∷ []) more left t text (r.2 ∙ sym (append_assoc before (value ∷ []) more))) in
-          let there : heard_in n201 (before ++ value ∷ []) ≡ heard_in n201 before ++ e ∷ [] =
-          sym then ∙ ap (heard_in n201) (sym (append_assoc (replicate way 0x7E) before (value ∷ [])) ∙ ap (λ os. os ++ value ∷ []) (sym r.1)) ∙ (heard_with n201 x value ∙ ap (λ o. heard_in n201 x ++ option_to_list o) gains)
-          ∙ ap (λ h. h ++ e ∷ []) (ap (heard_in n201) r.1 ∙ first) in
-          (before, r.2, same-gain (heard_in n201 before) e (gained n201 before value) (sym (heard_with n201 before value) ∙ there))
+          let all : length (flags way) ≡ way = length-replicate {A = ℕ} way 0x7E in let r = longer-begins (replicate way 0x7E) g x (value ∷ more) is (omega (arith, many, all)) in
+          (r.0, r.2, sym (flags-gained way g r.0 value more left t text r.2) ∙ ap (λ x. gained n201 x value) (sym r.1) ∙ gains)
 
--- ---- one direction of the clocked circuit: the frames on the way of an end, where what comes at the other may be noise
+-- ---- one direction of the clocked circuit
 
--- The first octets in transit are flags that no pull gave; behind them is what was given, and not heard yet.
+-- So many flags of the beginning, and then what was given: some of it received, and the rest is in transit.
+abbrev pub flagged : ℕ → Port → Port
+flagged k p = record p { given = replicate k 0x7E ++ p.given }
+
+abbrev pub Flow : ℕ → ℕ → Port → List ℕ → List ℕ → List (List ℕ) → Type 0
+Flow n201 k p way received frames = Carries n201 (flagged k p) way received frames
+
+-- As it begins flags are in transit.
+pub first-flow : (n201 k : ℕ) (p : Port) (way received : List ℕ) → p ≡ fresh_port → received ≡ [] → way ≡ replicate k 0x7E → Flow n201 k p way received []
+first-flow n201 k p way received here none is =
+    subst (λ p. Flow n201 k p way received []) (sym here) (subst (λ received. Flow n201 k fresh_port way received []) (sym none)
+    (subst (λ way. Flow n201 k fresh_port way [] []) (sym is) (record { given = append-nil (replicate k 0x7E); are = refl; octets = All-nil AreOctets })))
+
+-- Of the frames on its way an end heard none whose octets received with noise.
 pub record Going (n201 : ℕ) (p : Port) (way : List ℕ) (there : List (List ℕ)) : Type 0 where
-  pub flags : List ℕ
-  pub rest : List ℕ
+  pub flags : ℕ
   pub before : List ℕ
-  pub carries : Carries n201 p rest before there
-  pub way_is : way ≡ flags ++ rest
-  pub first : 1 ≤ length flags → before ≡ []
+  pub flow : Flow n201 flags p way before there
 
 -- What does not change the port and the way leaves it.
 pub going-with : (n201 : ℕ) (p q : Port) (way way' : List ℕ) (there : List (List ℕ)) → q.items ≡ p.items → q.given ≡ p.given → way' ≡ way → Going n201 p way there → Going n201 q way' there
-going-with n201 p q way way' there items given same h = grind arith
+going-with n201 p q way way' there items given same h = record {
+  flags = h.flags;
+  before = h.before;
+  flow = record {
+    given = ap (λ g. replicate h.flags 0x7E ++ g) given ∙ h.flow.given ∙ ap (λ w. h.before ++ w) (sym same);
+    are = ap (λ is. framed (frames_among is)) items ∙ h.flow.are;
+    octets = subst (λ is. All AreOctets (frames_among is)) (sym items) h.flow.octets;
+  };
+}
+
+-- So much of what was given has come, or had to come.
+pub before-long : (n201 : ℕ) (p : Port) (way : List ℕ) (there : List (List ℕ)) (g : Going n201 p way there) (n transit : ℕ) → length p.given ≡ n → length way ≡ transit
+    → g.flags + n ≤ length g.before + transit
+before-long n201 p way there g n transit given long =
+    let all = ap length g.flow.given in let a = length-append (replicate g.flags 0x7E) p.given in let b = length-append g.before way in
+    let f : length (flags g.flags) ≡ g.flags = length-replicate {A = ℕ} g.flags 0x7E in omega (arith, all, a, b, f, given, long)
 
 -- ---- a pull
 
@@ -147,13 +172,6 @@ frame-put g = grind arith
 
 octets-put : (g : Option NextFrame) → ((f : NextFrame) → g ≡ Some f → AreOctets f.octets) → All AreOctets (frames_among (item_of g ∷ []))
 octets-put g h = grind arith
-
--- So many flags of the beginning, and then what was given: some of it was received, and the rest is in transit.
-abbrev pub flagged : ℕ → Port → Port
-flagged k p = record p { given = replicate k 0x7E ++ p.given }
-
-abbrev pub Flow : ℕ → ℕ → Port → List ℕ → List ℕ → List (List ℕ) → Type 0
-Flow n201 k p way received frames = Carries n201 (flagged k p) way received frames
 
 octet-flows : (n201 k : ℕ) (p : Port) (way received : List ℕ) (frames : List (List ℕ)) → Flow n201 k p way received frames → Flow n201 k (with_octet p) (way ++ next_octet p ∷ []) received frames
 octet-flows n201 k p way received frames h = record {
@@ -173,121 +191,104 @@ module _ (c : Config) (ranged : IsInRange c) (s : OctetEndpoint) (ran : Ran c s)
       (one-put n201 (flagged k (port_of s)) way received there flow (item_of g) (octets-put g (λ f is. gives-octets c ranged s ran f (ap line.gave is)))))
   pulled-goes n201 k way received flow false = octet-flows n201 k (port_of s) way received there flow
 
-  pub pulled-way : (due : Bool) → is_due (port_of s) ≡ due → Going c.n201 (port_of s) s.way there
-      → Going c.n201 (port_of (happens port.pull s)) (happens port.pull s).way (if_meant (cond due (Some line.next) None) (as_endpoint there s)).way
+  pub pulled-flow : (n201 k : ℕ) (received : List ℕ) → Flow n201 k (port_of s) s.way received there → (due : Bool) → is_due (port_of s) ≡ due
+      → Flow n201 k (port_of (happens port.pull s)) (happens port.pull s).way received (if_meant (cond due (Some line.next) None) (as_endpoint there s)).way
   unfolding answer meant
-  pulled-way due is h =
-      let o : Option line.Event = cond (is_due (port_of s)) (Some line.next) None in let q = with_item (option_map (answer_to s.card.card) (option_map (frames.at s.line) o)) (port_of s) in
-      let frames_now = (if_meant (cond (is_due (port_of s)) (Some line.next) None) (as_endpoint there s)).way in
-      subst (λ b. Going c.n201 (port_of (happens port.pull s)) (happens port.pull s).way (if_meant (cond b (Some line.next) None) (as_endpoint there s)).way) is
-      (record {
-        flags = h.flags;
-        rest = h.rest ++ next_octet q ∷ [];
-        before = h.before;
-        carries = subst (λ p. Carries c.n201 p (h.rest ++ next_octet q ∷ []) h.before frames_now) (sym (port-after s port.pull (within-ports c ranged s ran)))
-            (pulled-goes c.n201 0 h.rest h.before h.carries (is_due (port_of s)));
-        way_is = ap (λ w. w ++ next_octet q ∷ []) h.way_is ∙ append_assoc h.flags h.rest (next_octet q ∷ []);
-        first = h.first;
-      })
+  pulled-flow n201 k received h due is =
+      let Now = λ (p : Port) (due : Bool). Flow n201 k p (happens port.pull s).way received (if_meant (cond due (Some line.next) None) (as_endpoint there s)).way in
+      subst (Now (port_of (happens port.pull s))) is (subst (λ p. Now p (is_due (port_of s))) (sym (port-after s port.pull (within-ports c ranged s ran))) (pulled-goes n201 k s.way received h (is_due (port_of s))))
 
--- ---- an octet goes off the way, and the other end gains something, or nothing
+  pub pulled-way : (h : Going c.n201 (port_of s) s.way there) (due : Bool) → is_due (port_of s) ≡ due
+      → Going c.n201 (port_of (happens port.pull s)) (happens port.pull s).way (if_meant (cond due (Some line.next) None) (as_endpoint there s)).way
+  pulled-way h due is = record { flags = h.flags; before = h.before; flow = pulled-flow c.n201 h.flags h.before h.flow due is }
 
--- no frame is gained; it may be that one is lost
+-- ---- an octet goes off the way, and a frame ends there, or none
+
+-- Behind the flags of the beginning what was given comes.
+pub unflagged : (n201 k : ℕ) (p : Port) (way received x : List ℕ) (frames : List (List ℕ)) → IsSoundPort n201 p → received ≡ replicate k 0x7E ++ x → p.given ≡ x ++ way → Flow n201 k p way received frames → Carries n201 p way x frames
+unflagged n201 k p way received x frames sound is given h = record {
+  given = given;
+  are = h.are ∙ ap (λ es. es ++ framed frames) (ap (heard_in n201) is ∙ flags-before n201 k x (begins-so n201 p.given x way (left_of p) (flat_map item_text p.items) (sym sound.text.text) given));
+  octets = h.octets;
+}
+
+-- So it does once more than the flags has come.
+pub past-flags : (n201 : ℕ) (p : Port) (way : List ℕ) (there : List (List ℕ)) (g : Going n201 p way there) → IsSoundPort n201 p → (most : ℕ) → g.flags + most < length g.before
+    → (x : List ℕ) × Carries n201 p way x there × (most < length x)
+past-flags n201 p way there g sound most late =
+    let F = replicate g.flags 0x7E in let f : length (flags g.flags) ≡ g.flags = length-replicate {A = ℕ} g.flags 0x7E in let x = longer-begins F p.given g.before way g.flow.given (omega (arith, late, f)) in
+    let long = ap length x.1 ∙ length-append F x.0 in (x.0, unflagged n201 g.flags p way g.before x.0 there sound x.1 x.2 g.flow, omega (arith, long, f, late))
+
+-- A frame ends with the octet that comes as it was given: the first on the way.
+module _ (n201 k : ℕ) (p : Port) (value : ℕ) (more received : List ℕ) (frames : List (List ℕ)) (h : Flow n201 k p (value ∷ more) received frames) (sound : IsSoundPort n201 p) (on : IsOnItsWay p) where
+  -- What is in transit with it stands behind the flags.
+  behind-flags : (x : List ℕ) → p.given ≡ x ++ value ∷ more → received ≡ replicate k 0x7E ++ x
+  behind-flags x is =
+      append_cancel_right received (replicate k 0x7E ++ x) (value ∷ more) (sym h.given ∙ ap (λ g. replicate k 0x7E ++ g) is ∙ sym (append_assoc (replicate k 0x7E) x (value ∷ more)))
+
+  pub as-given : (x : List ℕ) → p.given ≡ x ++ value ∷ more → gained n201 received value ≡ gained n201 x value
+  as-given x is =
+      ap (λ os. gained n201 os value) (behind-flags x is)
+      ∙ flags-gained n201 k p.given x value more (left_of p) (flat_map item_text p.items) (sym sound.text.text) is
+
+  pub record Brings (e : stream.Event) : Type 0 where
+    pub first : List ℕ
+    pub rest : List (List ℕ)
+    pub are : frames ≡ first ∷ rest
+    pub event : e ≡ stream.frame first
+    pub whole : came n201 first ≡ stream.frame first
+    pub flow : Flow n201 k p more (received ++ value ∷ []) rest
+
+  pub brings : (e : stream.Event) → gained n201 received value ≡ Some e → Brings e
+  brings e gains =
+      let H = heard_in n201 received in let x = gained-there n201 k p.given received value more (left_of p) (flat_map item_text p.items) e (sym sound.text.text) h.given gains in
+      let y = one-heard n201 p (value ∷ more) x.0 frames (unflagged n201 k p (value ∷ more) received x.0 frames sound (behind-flags x.0 x.1) x.1 h) sound on value more e refl x.2 in
+      record {
+        first = y.first;
+        rest = y.rest;
+        are = y.frames_are;
+        event = y.event;
+        whole = y.whole;
+        flow = record {
+          given = h.given ∙ sym (append_assoc received (value ∷ []) more);
+          are = h.are ∙ ap (λ fs. H ++ framed fs) y.frames_are ∙ sym (append_assoc H (stream.frame y.first ∷ []) (framed y.rest))
+              ∙ ap (λ es. es ++ framed y.rest) (sym (heard_with n201 received value ∙ ap (λ o. H ++ option_to_list o) (gains ∙ ap (λ e. Some e) y.event)));
+          octets = h.octets;
+        };
+      }
+
+-- The other end gains a frame, or none; then it may be that one is lost.
 abbrev pub IsNoFrame : Option stream.Event → Type 0
-IsNoFrame None = Unit {0}
-IsNoFrame (Some (stream.dropped cause)) = Unit {0}
-IsNoFrame (Some other) = ⊥
+IsNoFrame o = (e : stream.Event) → o ≡ Some e → IsFrame e → ⊥
+
+is-frame : (o : Option stream.Event) → ((e : stream.Event) × (o ≡ Some e) × IsFrame e) ⊎ IsNoFrame o
+is-frame None = inr (λ e is so. none-some e is)
+is-frame (Some (stream.dropped cause)) = inr (λ e is so. subst IsFrame (sym (same_Some (stream.dropped cause) e is)) so)
+is-frame (Some (stream.frame octets)) = inl (stream.frame octets, refl, tt)
+is-frame (Some (stream.overlong head)) = inl (stream.overlong head, refl, tt)
 
 module _ (n201 : ℕ) (c : Config) (ranged : IsInRange c) (size : c.n201 ≡ n201) (s : OctetEndpoint) (ran : Ran c s) (there : List (List ℕ)) (value : ℕ) (more : List ℕ)
     (h : Going n201 (port_of s) (value ∷ more) there) (o : Option stream.Event)
     (clear : (e : stream.Event) → o ≡ Some e → IsFrame e → (before : List ℕ) × ((port_of s).given ≡ before ++ value ∷ more) × (gained n201 before value ≡ Some e)) where
-  pub record Passes : Type 0 where
-    pub none : IsNoFrame o
-    pub goes : Going n201 (port_of s) more there
-
-  pub record Loses : Type 0 where
-    pub none : IsNoFrame o
-    pub lost : List ℕ
-    pub left : List (List ℕ)
-    pub are : there ≡ lost ∷ left
-    pub goes : Going n201 (port_of s) more left
-
-  pub record Arrives : Type 0 where
-    pub frame_is : List ℕ
-    pub left : List (List ℕ)
-    pub are : there ≡ frame_is ∷ left
-    pub gains : o ≡ Some (stream.frame frame_is)
-    pub whole : came n201 frame_is ≡ stream.frame frame_is
-    pub goes : Going n201 (port_of s) more left
-
+  -- Nothing ends there, or the first frame on the way: it is lost, or gained.
   abbrev pub Comes : Type 0
-  Comes = Passes ⊎ Loses ⊎ Arrives
+  Comes =
+      (IsNoFrame o × Going n201 (port_of s) more there) ⊎ ((first : List ℕ) × (left : List (List ℕ)) × (there ≡ first ∷ left) × Going n201 (port_of s) more left
+      × (IsNoFrame o ⊎ ((o ≡ Some (stream.frame first)) × (came n201 first ≡ stream.frame first))))
 
   sound : IsSoundPort n201 (port_of s)
   sound = subst (λ n. IsSoundPort n (port_of s)) size (sound-port c ranged s ran)
 
-  -- flags come first
-  not-given : (flag : ℕ) (flags : List ℕ) → h.flags ≡ flag ∷ flags → (before : List ℕ) → (port_of s).given ≡ before ++ value ∷ more → ⊥
-  not-given flag flags is before given =
-      let none = h.first (subst (λ fs. 1 ≤ length fs) (sym is) (omega arith)) in let all = ap length (h.carries.given ∙ ap (λ b. b ++ h.rest) none) in
-      let way = ap length (h.way_is ∙ ap (λ fs. fs ++ h.rest) is) in let so = ap length given ∙ length-append before (value ∷ more) in let long = length-append (flag ∷ flags) h.rest in
-      omega (arith, all, way, so, long)
+  -- A frame that is gained ends there.
+  its : (e : stream.Event) → o ≡ Some e → IsFrame e → gained n201 h.before value ≡ Some e
+  its e gains so = let x = clear e gains so in as-given n201 h.flags (port_of s) value more h.before there h.flow sound (on-line c ranged s ran) x.0 x.1 ∙ x.2
 
-  none-of-way : (o' : Option stream.Event) → o ≡ o' → ((e : stream.Event) → o ≡ Some e → IsFrame e → ⊥) → IsNoFrame o'
-  none-of-way None is nay = tt
-  none-of-way (Some (stream.dropped cause)) is nay = tt
-  none-of-way (Some (stream.frame octets)) is nay = nay (stream.frame octets) is tt
-  none-of-way (Some (stream.overlong head)) is nay = nay (stream.overlong head) is tt
+  then : (left : List (List ℕ)) → Flow n201 h.flags (port_of s) more (h.before ++ value ∷ []) left → Going n201 (port_of s) more left
+  then left flow = record { flags = h.flags; before = h.before ++ value ∷ []; flow = flow }
 
   pub comes : Comes
-  comes = go h.flags refl
-    where
-      go : (fs : List ℕ) → h.flags ≡ fs → Comes
-      go (f ∷ fs) is =
-          let way = h.way_is ∙ ap (λ fs. fs ++ h.rest) is in
-          inl (record {
-            none = none-of-way o refl (λ e gains its. let x = clear e gains its in not-given f fs is x.0 x.1);
-            goes = record { flags = fs; rest = h.rest; before = h.before; carries = h.carries; way_is = ap (drop 1) way; first = λ some. h.first (subst (λ fs. 1 ≤ length fs) (sym is) (omega arith)) };
-          })
-      go [] is = by (gained n201 h.before value) refl
-        where
-          same-before : (before : List ℕ) → (port_of s).given ≡ before ++ value ∷ more → before ≡ h.before
-          same-before before given = append_cancel_right before h.before (value ∷ more) (sym given ∙ (h.carries.given ∙ ap (λ w. h.before ++ w) (sym (h.way_is ∙ ap (λ fs. fs ++ h.rest) is))))
-
-          then : (left : List (List ℕ)) → Carries n201 (port_of s) more (h.before ++ value ∷ []) left → Going n201 (port_of s) more left
-          then left carries = record { flags = []; rest = more; before = h.before ++ value ∷ []; carries = carries; way_is = refl; first = λ some. absurd (omega (arith, some)) }
-
-          none-now : gained n201 h.before value ≡ None → (e : stream.Event) → o ≡ Some e → IsFrame e → ⊥
-          none-now none e gains its =
-              let x = clear e gains its in none-some e (sym none ∙ ap (λ b. gained n201 b value) (sym (same-before x.0 x.1)) ∙ x.2)
-            where
-              none-some : (e : stream.Event) → None ≡ Some e → ⊥
-              none-some e is = cc is
-
-          by : (g : Option stream.Event) → gained n201 h.before value ≡ g → Comes
-          by None none = inl (record { none = none-of-way o refl (none-now none); goes = then there (none-heard n201 (port_of s) h.rest h.before there h.carries value more (sym (h.way_is ∙ ap (λ fs. fs ++ h.rest) is)) none) })
-          by (Some e) some =
-              let x = one-heard n201 (port_of s) h.rest h.before there h.carries sound (on-line c ranged s ran) value more e (sym (h.way_is ∙ ap (λ fs. fs ++ h.rest) is)) some in by-gain x o refl
-            where
-              same-event : (e f : stream.Event) → Some e ≡ Some f → e ≡ f
-              same-event e f is = cc is
-
-              its : OneHeard n201 (port_of s) h.rest h.before there h.carries sound (on-line c ranged s ran) value more e → (f : stream.Event) → o ≡ Some f → IsFrame f → f ≡ e
-              its x f gains so = let y = clear f gains so in same-event f e (sym y.2 ∙ ap (λ b. gained n201 b value) (same-before y.0 y.1) ∙ some)
-
-              lost-so : OneHeard n201 (port_of s) h.rest h.before there h.carries sound (on-line c ranged s ran) value more e → IsNoFrame o → Loses
-              lost-so x none = record { none = none; lost = x.first; left = x.rest; are = x.frames_are; goes = then x.rest x.carries }
-
-              by-gain : OneHeard n201 (port_of s) h.rest h.before there h.carries sound (on-line c ranged s ran) value more e → (g : Option stream.Event) → o ≡ g → Comes
-              by-gain x None is = inr (inl (lost-so x (subst IsNoFrame (sym is) tt)))
-              by-gain x (Some (stream.dropped cause)) is = inr (inl (lost-so x (subst IsNoFrame (sym is) tt)))
-              by-gain x (Some (stream.frame octets)) is =
-                  inr (inr (record { frame_is = x.first; left = x.rest; are = x.frames_are; gains = is ∙ ap (λ e. Some e) (its x (stream.frame octets) is tt ∙ x.event); whole = x.whole; goes = then x.rest x.carries }))
-              by-gain x (Some (stream.overlong head)) is = absurd (other head (its x (stream.overlong head) is tt ∙ x.event))
-                where
-                  other : (head : List ℕ) → stream.overlong head ≡ stream.frame x.first → ⊥
-                  other head e = cc e
-
--- So much of what was given has been heard by the other end, or had to be.
-pub before-long : (n201 : ℕ) (p : Port) (way : List ℕ) (there : List (List ℕ)) (g : Going n201 p way there) (n transit : ℕ) → length p.given ≡ n → length way ≡ transit → n ≤ length g.before + transit
-before-long n201 p way there g n transit given long = grind (arith, length-append)
+  comes = by-option (gained n201 h.before value)
+      (λ none. inl ((λ e gains so. none-some e (sym none ∙ its e gains so)), then there (none-heard n201 (flagged h.flags (port_of s)) (value ∷ more) h.before there h.flow value more refl none)))
+      (λ e some.
+      let x = brings n201 h.flags (port_of s) value more h.before there h.flow sound (on-line c ranged s ran) e some in
+      inr (x.first, x.rest, x.are, then x.rest x.flow, by-either (is-frame o) (λ f. inr (f.1 ∙ (sym (its f.0 f.1 f.2) ∙ some) ∙ ap (λ e. Some e) x.event, x.whole)) (λ none. inl none)))

@@ -1,7 +1,7 @@
 -- A call without noise, in which no timer falls due: so many beats after the last request all is told.
 use Rattle.laws_time.proofs.Vocabulary.{ACallTakesBeats, AShortCallTakesBeats, All, All-append, All-cons, All-head, All-nil, All-tail, AreShort, AsksData, Beat, Begins, Call, CanCall, Clocked, Data, Delivers, Establish, FrameEndpoint, IsAtRest, IsClean, IsDataOf, IsInRange, IsOfLink, IsStill, IsTalk, IsToldAll, IsToldSince, Line, LineTold, List, MessagesTakeBeats, NoneFallsDue, Request}
 use Rattle.laws_time.proofs.Vocabulary.{ShortMessagesTakeBeats, TimedEndpoint, ToldSince, Wire, [], after, ap, arith, as_frames, asked-as, asked-way, asks, beat, begins, calls, cards-deliver, clean, confirmed, data_told, drop, due_since, duration, enough_beats, false, fold, granted_in, indicated, its_line, length, length-drop, longest, map, most_turns, network, nil_from_length}
-use Rattle.laws_time.proofs.Vocabulary.{one_granted, own_link, plain, port_of, refl, replicate, sapi_fault, subst, suc-mul, sym, unsent_at, user, wire_doing_all, wire_turns, ℕ, ◌*◌, ◌++◌, ◌+◌, ◌-◌, ◌/◌, ◌<◌, ◌∙◌, ◌∷◌, ◌≡◌, ◌≤◌}
+use Rattle.laws_time.proofs.Vocabulary.{one_granted, own_link, plain, port_of, refl, replicate, sapi_fault, subst, suc-mul, sym, unsent_at, user, wire_doing_all, wire_turns, ℕ, ◌*◌, ◌++◌, ◌+◌, ◌-◌, ◌/◌, ◌<◌, ◌∙◌, ◌∷◌, ◌≡◌, ◌≤◌, Port}
 use Rattle.model_line.specs.Event as line
 use Rattle.laws_wire.specs.Call as call
 use Rattle.laws_wire.specs.Wire as wire
@@ -10,7 +10,8 @@ use Rattle.laws_time.proofs.OfCircuit.AgainLaw.{Since, since-all}
 use Rattle.laws_time.proofs.OfCircuit.Words.{at_time, port-is, ran-begun, station-is, way-is}
 use Rattle.laws_time.proofs.OfCircuit.InBeatsFrames.{Comes, Due, near-none, far-none, call-comes, since-begun, none-left}
 use Rattle.laws_time.proofs.OfCircuit.InBeatsTold.{told-in, told-always}
-use Rattle.laws_time.proofs.OfCircuit.Joined.{first-flow, asked-joined, wire_of}
+use Rattle.laws_time.proofs.OfCircuit.ArrivWay.{first-flow}
+use Rattle.laws_time.proofs.OfCircuit.Joined.{asked-joined, wire_of}
 use Rattle.laws_time.proofs.OfCircuit.Led.{Both, LedTo, fits, fits-far, led-none, led-asked, led-then, led-all, near-pulled, far-pulled, data-talks, undue-parts, plain-clean}
 use Rattle.laws_time.specs.circuit.WorkedInBeats.{talks}
 use Rattle.laws_time.proofs.OfCircuit.InBeatsDue.{none-at-first}
@@ -32,8 +33,8 @@ module _ (l : Line) (can : CanCall l.near l.near_line l.far l.far_line l.tei) wh
       record {
         near = ran-begun l.near can.near.0 l.near_line l.tei l.way can.near.1;
         far = ran-begun l.far can.far.0 l.far_line l.tei l.way can.far.1;
-        goes = first-flow l.near.n201 l.way (port_of (begins l).near.at) (port_of (begins l).far.at) (begins l).near.at.way here there (way-is l.near can.near.0 l.near_line l.tei l.way can.near.1);
-        comes = first-flow l.near.n201 l.way (port_of (begins l).far.at) (port_of (begins l).near.at) (begins l).far.at.way there here (way-is l.far can.far.0 l.far_line l.tei l.way can.far.1);
+        goes = first-flow l.near.n201 l.way (port_of (begins l).near.at) (begins l).near.at.way (port_of (begins l).far.at).received here (ap (λ (p : Port). p.received) there) (way-is l.near can.near.0 l.near_line l.tei l.way can.near.1);
+        comes = first-flow l.near.n201 l.way (port_of (begins l).far.at) (begins l).far.at.way (port_of (begins l).near.at).received there (ap (λ (p : Port). p.received) here) (way-is l.far can.far.0 l.far_line l.tei l.way can.far.1);
       }
 
   pub both-rung : Both l can ringing.at silent.at ringing.at.way silent.at.way [] []

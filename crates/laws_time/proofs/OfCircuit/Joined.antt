@@ -1,57 +1,16 @@
 -- Two ends of the circuit without noise, as two stations: what is done at one of them, on the circuit and on the wire of frames.
-use Rattle.laws_time.proofs.Vocabulary.{All, All-cons, All-nil, All-weaker, AreOctets, AsksOctets, Bool, Config, Fits, IsOnItsWay, IsSoundPort, List, None, OctetEndpoint as Endpoint, Option, Port, Ran, Request, Service, Some, StreamEvent, Wire, [], ap, append-nil, append_assoc, append_cancel_right, arith, as_endpoint, asked-as, came, cond, config, drop, false, flat_map, framed, fresh_port, gained}
-use Rattle.laws_time.proofs.Vocabulary.{given_in, goes-on, heard-as, heard_in, heard_with, if_meant, is_due, item_of, item_text, left_of, length, length-append, next_of_card, none-heard, on-line, one-heard, option_map, option_to_list, port-after, port_of, pull-between, pull-put, pull-received, pulled-as, refl, replicate, sound-port, subst, sym, true, wire_doing_all, within-ports, ℕ, ◌++◌, ◌+◌}
+use Rattle.laws_time.proofs.Vocabulary.{All, All-cons, All-nil, All-weaker, AsksOctets, Bool, Config, Fits, IsSoundPort, List, None, OctetEndpoint as Endpoint, Option, Port, Ran, Request, Service, Some, StreamEvent, Wire, [], ap, arith, as_endpoint, asked-as, came, cond, config, drop, false, gained}
+use Rattle.laws_time.proofs.Vocabulary.{given_in, goes-on, heard-as, heard_in, heard_with, if_meant, is_due, item_of, length, length-append, next_of_card, none-heard, on-line, option_map, option_to_list, port-after, port_of, pull-between, pull-put, pull-received, pulled-as, refl, sound-port, subst, sym, true, wire_doing_all, within-ports, ℕ, ◌++◌, ◌+◌}
 use Rattle.laws_time.proofs.Vocabulary.{◌∙◌, ◌∷◌, ◌≡◌, by-option}
 use Rattle.model_bits.specs.Stream as stream
 use Rattle.model_line.specs.Event as line
 use Rattle.model_card.specs.ports.Port as port
-unfoldable use Rattle.model_card.specs.ports.Card.{answer, meant}
 use Rattle.laws_wire.specs.Call.{IsData, IsTalk}
 use Rattle.laws_wire.specs.Wire as wire
 use Rattle.laws_order.specs.circuit.Circuit.{happens}
 use Rattle.laws_time.proofs.OfCircuit.AckedCall.{sum_all, near_sends, far_sends}
 use Rattle.laws_time.proofs.OfCircuit.AckedWire.{one_if_any, near_takes, far_takes}
-use Rattle.laws_time.proofs.OfCircuit.ArrivWay.{flags-before, begins-so, gained-there, flagged, Flow, pulled-goes}
-
--- ---- one direction
-
--- As it begins flags are in transit.
-pub first-flow : (n201 k : ℕ) (p q : Port) (way : List ℕ) → p ≡ fresh_port → q ≡ fresh_port → way ≡ replicate k 0x7E → Flow n201 k p way q.received []
-first-flow n201 k p q way here there is =
-    subst (λ p. Flow n201 k p way q.received []) (sym here) (subst (λ (q : Port). Flow n201 k fresh_port way q.received []) (sym there)
-    (subst (λ way. Flow n201 k fresh_port way [] []) (sym is) (record { given = append-nil (replicate k 0x7E); are = refl; octets = All-nil AreOctets })))
-
--- An octet is received with which a frame ends: the first on the way.
-module _ (n201 k : ℕ) (p : Port) (value : ℕ) (more received : List ℕ) (frames : List (List ℕ)) (h : Flow n201 k p (value ∷ more) received frames) (sound : IsSoundPort n201 p) (on : IsOnItsWay p) where
-  pub record Brings (e : stream.Event) : Type 0 where
-    pub first : List ℕ
-    pub rest : List (List ℕ)
-    pub are : frames ≡ first ∷ rest
-    pub event : e ≡ stream.frame first
-    pub whole : came n201 first ≡ stream.frame first
-    pub flow : Flow n201 k p more (received ++ value ∷ []) rest
-
-  pub brings : (e : stream.Event) → gained n201 received value ≡ Some e → Brings e
-  brings e gains =
-      let text = sym sound.text.text in let t = flat_map item_text p.items in let H = heard_in n201 received in
-      let x = gained-there n201 k p.given received value more (left_of p) t e text h.given gains in
-      let same : received ≡ replicate k 0x7E ++ x.0 =
-      append_cancel_right received (replicate k 0x7E ++ x.0) (value ∷ more) (sym h.given ∙ ap (λ g. replicate k 0x7E ++ g) x.1 ∙ sym (append_assoc (replicate k 0x7E) x.0 (value ∷ more))) in
-      let silent = flags-before n201 k x.0 (begins-so n201 p.given x.0 (value ∷ more) (left_of p) t text x.1) in
-      let y = one-heard n201 p (value ∷ more) x.0 frames (record { given = x.1; are = h.are ∙ ap (λ es. es ++ framed frames) (ap (heard_in n201) same ∙ silent); octets = h.octets }) sound on value more e refl x.2 in
-      record {
-        first = y.first;
-        rest = y.rest;
-        are = y.frames_are;
-        event = y.event;
-        whole = y.whole;
-        flow = record {
-          given = h.given ∙ sym (append_assoc received (value ∷ []) more);
-          are = h.are ∙ ap (λ fs. H ++ framed fs) y.frames_are ∙ sym (append_assoc H (stream.frame y.first ∷ []) (framed y.rest))
-              ∙ ap (λ es. es ++ framed y.rest) (sym (heard_with n201 received value ∙ ap (λ o. H ++ option_to_list o) (gains ∙ ap (λ e. Some e) y.event)));
-          octets = h.octets;
-        };
-      }
+use Rattle.laws_time.proofs.OfCircuit.ArrivWay.{flagged, Flow, brings, pulled-flow}
 
 -- ---- what is done at one end, or at the other
 
@@ -212,13 +171,6 @@ module _ (Q : Request → Type 0) (n201 k : ℕ) (c d : Config) (fits : Fits n20
       let put = ap length (pull-put n201 c fits s ran is) ∙ length-append (port_of s).items (i ∷ []) in let puts = sum-one near_sends (wire.at_near wire.sends) f in
       (sym (sum-one near_takes (wire.at_near wire.sends) f), omega (arith, put, puts))
 
-  pulled-flow : (ws : List ℕ) → s.way ≡ ws → (received : List ℕ) (there : List (List ℕ)) → Ran c s → Flow n201 k (port_of s) ws received there
-      → Flow n201 k (port_of (happens port.pull s)) (happens port.pull s).way received (if_meant (cond (is_due (port_of s)) (Some line.next) None) (as_endpoint there s)).way
-  unfolding answer meant
-  pulled-flow ws is received there ran h =
-      subst (λ p. Flow n201 k p (happens port.pull s).way received (if_meant (cond (is_due (port_of s)) (Some line.next) None) (as_endpoint there s)).way) (sym (port-after s port.pull (within-ports c fits.ranged s ran)))
-      (pulled-goes c fits.ranged s ran there n201 k s.way received (subst (λ ws. Flow n201 k (port_of s) ws received there) (sym is) h) (is_due (port_of s)))
-
   pub pulls-one : (ws wr : List ℕ) → s.way ≡ ws → (there back : List (List ℕ)) → Joined n201 k c d s r ws wr there back → Does ws wr there back (happens port.pull s) (happens port.pull s).way wr
   pulls-one ws wr is there back h =
       let due = is_due (port_of s) in let x = pulled-put h.near due refl (wire_of s r there back) in
@@ -229,7 +181,7 @@ module _ (Q : Request → Type 0) (n201 k : ℕ) (c d : Config) (fits : Fits n20
         joined = record {
           near = goes-on c s port.pull tt h.near;
           far = h.far;
-          goes = pulled-flow ws is (port_of r).received there h.near h.goes;
+          goes = pulled-flow c fits.ranged s h.near there n201 k (port_of r).received (subst (λ ws. Flow n201 k (port_of s) ws (port_of r).received there) (sym is) h.goes) due refl;
           comes = subst (λ os. Flow n201 k (port_of r) wr os back) (sym (pull-received n201 c fits s h.near)) h.comes;
         };
         o = cond due (Some wire.sends) None;

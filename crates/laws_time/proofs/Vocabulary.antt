@@ -16,13 +16,12 @@ pub use Rattle.std.proofs.lemmas.Option.{none-some, same_Some}
 pub use Rattle.std.specs.List.{AllByRecursion, list_any}
 unfoldable pub use Rattle.std.specs.List.{IsDistinct}
 pub use Rattle.std.specs.Option.{option_map_or, unwrap_or}
-pub use Rattle.std.specs.Ordering.{is_eq, is_lt, nat_cmp, ordering_then}
+pub use Rattle.std.specs.Ordering.{is_lt, nat_cmp, ordering_then}
 pub use Rattle.std.specs.Prelude.{IfSome, flat_map, fold, min, option_to_list, sum_by}
 pub use Rattle.std.specs.declared.cmp.Ordering.{Ordering}
 pub use Rattle.lapd_clock.proofs.First.{before_itself, no_earlier}
-pub use Rattle.lapd_clock.proofs.Ordered.{All-filter, All-put_in_order, IsInOrder-filter, IsInOrder-put_in_order, count_by-put_in_order}
-pub use Rattle.lapd_clock.proofs.TimerOrder.{before_order, same_timer, timer_total}
-pub use Rattle.lapd_clock.specs.InOrder.{IsInOrder, put_in_order}
+pub use Rattle.lapd_clock.proofs.Ordered.{All-filter, All-put_in_order, count_by-put_in_order}
+pub use Rattle.lapd_clock.specs.InOrder.{IsInOrder}
 pub use Rattle.lapd_clock.specs.Moments.{moment_of}
 pub use Rattle.lapd_clock.specs.Sound.{IsOneEach}
 pub use Rattle.lapd_clock.specs.Timer.{AreInRange, Lengths, Order, Start, Stop, T201, T202, duration, is_same, timer_cmp}
@@ -64,7 +63,7 @@ pub use Rattle.laws_link.specs.two.Needed.{HasItsTimer}
 pub use Rattle.laws_link.specs.two.Timely.{HasNo}
 pub use Rattle.laws_order.proofs.OfCircuit.AsFrames.{as_endpoint, asked-as, heard-as, if_meant, pulled-as}
 pub use Rattle.laws_order.proofs.OfCircuit.AtPort.{next_of_card, pull-between, pull-given, pull-put, pull-received}
-pub use Rattle.laws_order.proofs.OfCircuit.OneWay.{Carries, OneHeard, framed, heard-beyond, none-heard, one-heard, one-put}
+pub use Rattle.laws_order.proofs.OfCircuit.OneWay.{Carries, framed, heard-beyond, none-heard, one-heard, one-put}
 pub use Rattle.laws_order.proofs.OfCircuit.Projected.{Fits, asked-way, heard-way, port-after}
 pub use Rattle.laws_order.proofs.OfCircuit.Ran.{AsksOctets, Ran, config, few-left, gives-octets, goes-on, on-line, sound, sound-port, within-ports}
 pub use Rattle.laws_order.proofs.OfCircuit.Takings.{all-paid, on_ways, takings-append}

@@ -54,6 +54,9 @@ abbrev pub turn : StepAt → StepAt
 turn (at_near act) = at_far act
 turn (at_far act) = at_near act
 
+pub all-turned : (P : StepAt → Type 0) → ((k : StepAt) → P k → P (turn k)) → (es : List StepAt) → All P es → All P (map turn es)
+all-turned P one es all = All-map P turn es (All-weaker P (λ k. P (turn k)) one es all)
+
 doing-turned : (k : StepAt) (w : Wire) → doing (turn k) (turned w) ≡ turned (doing k w)
 doing-turned k w = grind arith
 
@@ -86,7 +89,7 @@ module _ (service : Service) (tei : ℕ) where
   talk-turned h is = grind arith
 
   pub talks-turned : (es : List StepAt) → All Talks es → All Talks (map turn es)
-  talks-turned es all = All-map Talks turn es (All-weaker Talks (λ k. Talks (turn k)) talk-turned es all)
+  talks-turned = all-turned Talks talk-turned
 
   parts-append : (c : Config) (xs ys : List (List ℕ)) → infos (parts_in service tei c (xs ++ ys)) ≡ infos (parts_in service tei c xs) + infos (parts_in service tei c ys)
   parts-append c [] ys = omega arith

@@ -1,22 +1,17 @@
 -- The circuit as a wire of stations with losses: from one wire to another, and an end as a station after each event.
-use Rattle.laws_time.proofs.Vocabulary.{All, All-append, All-cons, All-head, All-nil, All-tail, Config, EndStep as Step, FrameEndpoint, IsFrame, IsFullTalk, IsFullTalkOf, IsInRange, IsTimelyOf, LineTold, List, None, OctetEndpoint, Option, Port, Ran, Request, Service, Some, StayPatient, StepAt, TimedEndpoint, Timer, Wire, [], acting, ap, append-nil, arith, as_endpoint, asked-as, at_far}
-use Rattle.laws_time.proofs.Vocabulary.{at_near, came, cond, doing-append, drop, false, flat_map, flat_map-append, for_layer_3, fresh_line, gained, happens as happens_pulled, heard-as, heard-way, hears, if_meant, inl, inr, is_due, length, line_after, line_answer, loses, option_map, port-after, port_of, pulled-as, receives, refl, sends, set-get_or, subst, sym, takes_slot, true, turned}
-use Rattle.laws_time.proofs.Vocabulary.{unwrap_or, wire_doing_all as doing_all, within-ports, ℕ, ◌++◌, ◌+◌, ◌∙◌, ◌∷◌, ◌≡◌, by-bool}
+use Rattle.laws_time.proofs.Vocabulary.{All, All-append, All-cons, All-nil, Config, EndStep as Step, FrameEndpoint, IsFrame, IsFullTalk, IsFullTalkOf, IsInRange, IsTimelyOf, LineTold, List, None, OctetEndpoint, Option, Port, Ran, Request, Service, Some, StayPatient, StepAt, TimedEndpoint, Timer, Wire, [], acting, ap, append-nil, arith, as_endpoint, asked-as, at_far}
+use Rattle.laws_time.proofs.Vocabulary.{at_near, came, cond, doing-append, drop, false, flat_map, flat_map-append, for_layer_3, fresh_line, gained, heard-as, heard-way, hears, if_meant, inl, inr, is_due, length, line_after, line_answer, loses, option_map, port-after, port_of, pulled-as, receives, refl, set-get_or, subst, sym, takes_slot, true, turned}
+use Rattle.laws_time.proofs.Vocabulary.{unwrap_or, wire_doing_all as doing_all, within-ports, ℕ, ◌++◌, ◌+◌, ◌∙◌, ◌∷◌, ◌≡◌, map}
 use Rattle.model_bits.specs.Stream as stream
 use Rattle.model_line.specs.Event as line
 use Rattle.model_card.specs.ports.Port as port
 use Rattle.laws_wire.specs.Wire as wire
 use Rattle.laws_order.specs.circuit.Circuit as circuit
 use Rattle.laws_order.specs.circuit.Circuit.{happens}
-use Rattle.laws_time.proofs.OfCircuit.AckedCall.{turn}
+use Rattle.laws_time.proofs.OfCircuit.AckedCall.{turn, turn-all, all-turned}
 use Rattle.laws_wire.proofs.UaMoves.{both-patient}
 use Rattle.laws_time.proofs.OfCircuit.Standing.{expired-reply}
-use Rattle.laws_time.proofs.OfCircuit.ArrivWay.{Going, pulled-way, IsNoFrame, Comes, comes}
-
--- The other end has the same done to it.
-all-swapped : List StepAt → List StepAt
-all-swapped [] = []
-all-swapped (d ∷ ds) = turn d ∷ all-swapped ds
+use Rattle.laws_time.proofs.OfCircuit.ArrivWay.{Going, IsNoFrame, Comes, comes}
 
 module _ (service : Service) (tei : ℕ) where
   pub record Path (w v : Wire) : Type 0 where
@@ -41,28 +36,22 @@ module _ (service : Service) (tei : ℕ) where
   unfolding StayPatient doing_all
   path-one act is w v timely same = record { steps = at_near act ∷ []; done = All-cons (IsFullTalk service tei) (at_near act) [] is (All-nil (IsFullTalk service tei)); patient = (timely, tt); leads = same }
 
-  swap-done : (ds : List StepAt) → All (IsFullTalk service tei) ds → All (IsFullTalk service tei) (all-swapped ds)
-  unfolding all-swapped
-  swap-done [] all = All-nil (IsFullTalk service tei)
-  swap-done (at_near act ∷ ds) all =
-      All-cons (IsFullTalk service tei) (at_far act) (all-swapped ds) (All-head (IsFullTalk service tei) (at_near act) ds all) (swap-done ds (All-tail (IsFullTalk service tei) (at_near act) ds all))
-  swap-done (at_far act ∷ ds) all =
-      All-cons (IsFullTalk service tei) (at_near act) (all-swapped ds) (All-head (IsFullTalk service tei) (at_far act) ds all) (swap-done ds (All-tail (IsFullTalk service tei) (at_far act) ds all))
+  full-turned : (k : StepAt) → IsFullTalk service tei k → IsFullTalk service tei (turn k)
+  full-turned k is = grind arith
 
-  swap-patient : (ds : List StepAt) (w : Wire) → StayPatient ds w → StayPatient (all-swapped ds) (turned w)
-  unfolding StayPatient all-swapped
+  swap-patient : (ds : List StepAt) (w : Wire) → StayPatient ds w → StayPatient (map turn ds) (turned w)
+  unfolding StayPatient
   swap-patient [] w h = tt
   swap-patient (at_near act ∷ ds) w h = (h.0, swap-patient ds (acting act w) h.1)
   swap-patient (at_far act ∷ ds) w h = (h.0, swap-patient ds (turned (acting act (turned w))) h.1)
 
-  swap-leads : (ds : List StepAt) (w : Wire) → doing_all (all-swapped ds) (turned w) ≡ turned (doing_all ds w)
-  unfolding doing_all all-swapped
-  swap-leads [] w = refl
-  swap-leads (at_near act ∷ ds) w = swap-leads ds (acting act w)
-  swap-leads (at_far act ∷ ds) w = swap-leads ds (turned (acting act (turned w)))
-
   pub path-turned : (w v : Wire) → Path w v → Path (turned w) (turned v)
-  path-turned w v p = record { steps = all-swapped p.steps; done = swap-done p.steps p.done; patient = swap-patient p.steps w p.patient; leads = swap-leads p.steps w ∙ ap turned p.leads }
+  path-turned w v p = record {
+    steps = map turn p.steps;
+    done = all-turned (IsFullTalk service tei) full-turned p.steps p.done;
+    patient = swap-patient p.steps w p.patient;
+    leads = turn-all p.steps w ∙ ap turned p.leads;
+  }
 
 -- ---- an end of the circuit as a station of frames, after each event: layer 3 hears the same there, except what was dropped
 
@@ -147,39 +136,6 @@ module _ (value : ℕ) (way : List (List ℕ)) (s : OctetEndpoint) (ts : List Li
       let card = ap (λ (x : FrameEndpoint). x.card) same ∙ dropped-card cause in let number = ap (λ (x : FrameEndpoint). x.line) same in
       let granted = ap (λ (x : FrameEndpoint). x.granted) same ∙ dropped-granted cause in
       grind (arith, append-nil, dropped-unheard, flat_map-append, for_layer_3, wire.told_by, wire.answered, as_endpoint)
-
--- ---- a pull at an end and at its station: a frame is put on the line, or none; and what is heard leaves what was put there
-
--- A pull, at an end and at its station.
-module _ (service : Service) (tei : ℕ) (c : Config) (ranged : IsInRange c) (a : TimedEndpoint) (ran : Ran c a.at) (there : List (List ℕ)) (goes : Going c.n201 (port_of a.at) a.at.way there)
-    (ts : List LineTold) (heard : heard_of ts ≡ heard_of a.at.told) (y : FrameEndpoint) where
-  pub record PulledTo : Type 0 where
-    pub there' : List (List ℕ)
-    pub goes' : Going c.n201 (port_of (happens_pulled port.pull a).at) (happens_pulled port.pull a).at.way there'
-    pub ts' : List LineTold
-    pub heard' : heard_of ts' ≡ heard_of (happens_pulled port.pull a).at.told
-    pub path : Path service tei (record { near = station there ts a.at; far = y }) (record { near = station there' ts' (happens_pulled port.pull a).at; far = y })
-
-  pub pulls-to : PulledTo
-  pulls-to = by-bool (is_due (port_of a.at)) (λ due.
-      let b = due-becomes there a.at ts heard due in
-      record {
-        there' = (wire.happens line.next (as_endpoint there a.at)).way;
-        goes' = pulled-way c ranged a.at ran there goes true due;
-        ts' = b.ts;
-        heard' = b.heard;
-        path = path-one service tei sends tt (record { near = station there ts a.at; far = y })
-            (record { near = station (wire.happens line.next (as_endpoint there a.at)).way b.ts (happens_pulled port.pull a).at; far = y }) tt (λ i. record { near = b.is i; far = y });
-      })
-      (λ due.
-      let b = undue-becomes there a.at ts heard due in
-      record {
-        there' = there;
-        goes' = pulled-way c ranged a.at ran there goes false due;
-        ts' = b.ts;
-        heard' = b.heard;
-        path = path-none service tei (record { near = station there ts a.at; far = y }) (record { near = station there b.ts (happens_pulled port.pull a).at; far = y }) (λ i. record { near = b.is i; far = y });
-      })
 
 -- What is heard leaves what was put on the line.
 pub heard-port : (c : Config) (ranged : IsInRange c) (a : TimedEndpoint) (ran : Ran c a.at) (noise : Option ℕ) (way : List ℕ)

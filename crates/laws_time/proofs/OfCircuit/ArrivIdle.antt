@@ -119,7 +119,7 @@ idle-first c tei number way ranged within lengths =
 
 going-first : (c : Config) (ranged : IsInRange c) (tei number way : ℕ) (within : number < c.lines) (lengths : Lengths) → let s = endpoint c number lengths way tei in Going c.n201 (port_of s.at) s.at.way []
 going-first c ranged tei number way within lengths =
-    let s = endpoint c number lengths way tei in record { flags = way; before = []; flow = first-flow c.n201 way (port_of s.at) s.at.way [] (port-is c ranged number tei way within) refl (way-is c ranged number tei way within) }
+    let s = endpoint c number lengths way tei in record { many = way; before = []; flow = first-flow c.n201 way (port_of s.at) s.at.way [] (port-is c ranged number tei way within) refl (way-is c ranged number tei way within) }
 
 module _ (l : Line) (fit : IsFit l) where
   -- Nothing was asked for.

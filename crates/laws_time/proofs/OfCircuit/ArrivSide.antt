@@ -1,17 +1,15 @@
--- An end of the clocked circuit and its station: which errors are told as T200 expires, which frames are under way, and what is asked and falls due.
-use Rattle.laws_time.proofs.Vocabulary.{All, All-cons, All-head, All-nil, All-tail, Bool, Carries, Config, Control, ControlFrame, Course, ErrorCode, Expiry, FrameEndpoint, FrameEndpoint as Endpoint, HasNo, IsAskedOfLink, IsCarried, IsInRange, IsLongEnough, IsOfLink, IsWaitingFrame, Lengths, LineTold, Link, LinkEndpoint, LinkIsSound, List, MayRepeat, None, Note, OctetEndpoint, Option, Parts}
-use Rattle.laws_time.proofs.Vocabulary.{Request, Service, Some, StationStands, StreamEvent as Event, T200, TellNoError, Terms, TimedEndpoint, Timer, Wire, [], ap, append-nil, append_cancel_left, arith, as_endpoint, asks, awaits_in, course, due, error_in, expired, expires, expires-said, expiry, fall_due, falls, false, flat_map, flat_map-append, fold, framed, frames_among, gained, happens}
-use Rattle.laws_time.proofs.Vocabulary.{heard_by, heard_in, is_error, is_final, is_poll, is_used_up, is_waiting, length, length-append, link-sound, list_any, list_any-append, map, none-heard, one-heard, open-here, or-none, or_parts, own_side, parts_of, port_of, reading, refl, requests, said_by, spelling, state-is, state_number, subst, sym, terms, true, without_first, ℕ, ◌*◌, ◌++◌, ◌+◌, ◌<◌, ◌∙◌}
+-- An end of the clocked circuit and its station: which errors are told as T200 expires, and which frames are under way.
+use Rattle.laws_time.proofs.Vocabulary.{All, All-cons, All-head, All-nil, All-tail, Bool, Carries, Config, Control, ControlFrame, Course, ErrorCode, FrameEndpoint as Endpoint, HasNo, IsCarried, IsInRange, IsWaitingFrame, LineTold, Link, LinkEndpoint, LinkIsSound, List, MayRepeat, None, Note, OctetEndpoint, Option, Parts}
+use Rattle.laws_time.proofs.Vocabulary.{Request, Service, Some, StationStands, StreamEvent as Event, T200, TellNoError, Terms, TimedEndpoint, [], ap, append-nil, append_cancel_left, arith, as_endpoint, asks, course, error_in, expired, expires-said, expiry, fall_due, false, flat_map, flat_map-append, fold, framed, frames_among, gained, happens}
+use Rattle.laws_time.proofs.Vocabulary.{heard_by, heard_in, is_error, is_used_up, length, length-append, link-sound, list_any, list_any-append, map, none-heard, one-heard, or-none, or_parts, own_side, parts_of, port_of, reading, refl, said_by, spelling, subst, sym, terms, true, without_first, ℕ, ◌*◌, ◌++◌, ◌+◌, ◌<◌, ◌∙◌}
 use Rattle.laws_time.proofs.Vocabulary.{◌∷◌, ◌≡◌, ◌≤◌}
 use Rattle.lapd_frame.specs.declared.timers.Timer.TheVariants as timers
-use Rattle.model_line.specs.Event as line
 use Rattle.model_card.specs.ports.Port as port
-use Rattle.laws_wire.specs.Wire as wire
 use Rattle.laws_wire.specs.Wire.{answered, told_by}
 use Rattle.laws_time.specs.circuit.LongEnough.{is_of}
-use Rattle.laws_time.proofs.OfCircuit.ArrivAs.{station, heard_of, Becomes, asked-becomes, expired-becomes, Path, path-none, path-both, path-one}
-use Rattle.laws_time.proofs.OfCircuit.ArrivWay.{Going, going-with, before-long, past-flags}
-use Rattle.laws_time.proofs.OfCircuit.Words.{EndOk, Ends, Goes, IsOwn, RunsOurs, Sends, asks as asks_frame, asks-goes, bare, due-is, expired-reply, falls-keep, fell-goes, fine, first-of, fold-keeps, given-short, half, last-is, out, own-timer, ring, soon-then, text, text-kind, text_length}
+use Rattle.laws_time.proofs.OfCircuit.ArrivAs.{station}
+use Rattle.laws_time.proofs.OfCircuit.ArrivWay.{Going, past-flags}
+use Rattle.laws_time.proofs.OfCircuit.Words.{Ends, IsOwn, Sends, bare, falls-keep, fine, fold-keeps, given-short, last-is, out, ring, text, text-kind, text_length}
 use Rattle.laws_time.proofs.OfCircuit.Sender.{WaitIn}
 
 abbrev pub codes : List LineTold → List ErrorCode
@@ -105,7 +103,7 @@ module _ (c : Config) (service : Service) (tei : ℕ) (ranged : IsInRange c) whe
     }
 
     -- All of a kind was given before what is in transit.
-    module _ (kind : Bool → Control → Bool) (most : ℕ) (ok : Sends c.n201 (is_of kind c) most (port_of s) (ring c service tei 0 ranged h.its)) (late : goes.flags + most < length goes.before) where
+    module _ (kind : Bool → Control → Bool) (most : ℕ) (ok : Sends c.n201 (is_of kind c) most (port_of s) (ring c service tei 0 ranged h.its)) (late : goes.many + most < length goes.before) where
       abbrev IsNot : List ℕ → Type 0
       IsNot o = is_of kind c o ≡ false
 
@@ -183,9 +181,6 @@ module _ (c : Config) (service : Service) (tei : ℕ) (ranged : IsInRange c) whe
         way = none-parts there are-own (none-of-way way come.0 there come.1 come.2);
       }
 
--- ---- what layer 3 asks at an end of the clocked circuit, and what falls due there, is done at the station for which it stands, where T200 is
--- long enough.
-
 -- What is told later leaves what was told.
 pub fair-happens : (e : port.Event) (a : TimedEndpoint) → IsFair (happens e a).at.told → IsFair a.at.told
 fair-happens e a fair = (fair-parts a.at.told _ fair).0
@@ -196,133 +191,3 @@ fair-asks rs a = fold-keeps asks (λ r. Unit {0}) (λ u. IsFair u.at.told → Is
 pub fair-falls : (k : ℕ) (a : TimedEndpoint) → IsFair (fall_due k a).at.told → IsFair a.at.told
 fair-falls k a =
     falls-keep (λ u. IsFair u.at.told → IsFair a.at.told) (λ x u is was fair. was (fair-happens (port.expiry x.timer) (record u { clock = without_first u.clock }) fair)) k a (λ fair. fair)
-
-no-polls : (n : LinkEndpoint) → HasNo asks_frame n → HasNo is_poll n
-no-polls n h = grind arith
-
--- The states that await an answer.
-same-waits : (k : ℕ) → awaits_in (Some k) ≡ is_waiting k
-same-waits k = grind arith
-
-module _ (service : Service) (tei : ℕ) (c : Config) (ranged : IsInRange c) (d : Config) (lengths : Lengths) (rate transit total n moment : ℕ)
-    (ago : (S m : ℕ) → S + lengths.t200 * rate ≤ (m + 1) * rate → m ≤ moment → S + total ≤ n)
-    (wide : (S : ℕ) → transit + (S + half c service tei 0 ranged) < S + total)
-    (low M : ℕ) (y : FrameEndpoint) (m : LinkEndpoint) (y_stands : StationStands d service tei 0 y m) (finals : (S : ℕ) → low ≤ S → S + total ≤ n → HasNo is_final m) where
-  -- An end, and the station for which it stands.
-  pub record Stood (S : ℕ) (a : TimedEndpoint) (x : FrameEndpoint) : Type 0 where
-    pub ok : EndOk c service tei 0 ranged lengths rate S M a
-    pub later : low ≤ S
-    pub given : length (port_of a.at).given ≡ n
-    pub way : length a.at.way ≡ transit
-    pub now : a.clock.now ≡ moment
-    pub soon : length (port_of a.at).given ≤ (a.clock.now + 1) * rate
-    pub there : List (List ℕ)
-    pub goes : Going c.n201 (port_of a.at) a.at.way there
-    pub ts : List LineTold
-    pub is : x ≡ station there ts a.at
-    pub heard : heard_of ts ≡ heard_of a.at.told
-
-  -- What is done there.
-  pub record After (x : FrameEndpoint) (u : TimedEndpoint) : Type 0 where
-    pub S : ℕ
-    pub x' : FrameEndpoint
-    pub stood : Stood S u x'
-    pub path : Path service tei (record { near = x; far = y }) (record { near = x'; far = y })
-
-  abbrev with : FrameEndpoint → Wire
-  with x = record { near = x; far = y }
-
-  after-none : (S : ℕ) (a : TimedEndpoint) (x : FrameEndpoint) → Stood S a x → After x a
-  after-none S a x h = record { S = S; x' = x; stood = h; path = path-none service tei (with x) (with x) refl }
-
-  after-both : (x : FrameEndpoint) (u v : TimedEndpoint) (g : After x u) → After g.x' v → After x v
-  after-both x u v g k = record { S = k.S; x' = k.x'; stood = k.stood; path = path-both service tei (with x) (with g.x') (with k.x') g.path k.path }
-
-  -- An event at both.
-  pub stood-then : (S : ℕ) (a u : TimedEndpoint) (x : FrameEndpoint) (h : Stood S a x) (e : line.Event) (g : Goes c service tei 0 ranged lengths rate S M a u)
-      → Becomes (wire.happens e (station h.there h.ts a.at)) h.there u.at → Stood g.S' u (wire.happens e x)
-  stood-then S a u x h e g b = record {
-    ok = g.ok;
-    later = let first = h.later in let then = g.later in omega (arith, first, then);
-    given = ap (λ (p : port.Port). length p.given) g.port ∙ h.given;
-    way = ap length g.way ∙ h.way;
-    now = g.now ∙ h.now;
-    soon = soon-then c service tei 0 ranged lengths rate S M a u g h.soon;
-    there = h.there;
-    goes = going-with c.n201 (port_of a.at) (port_of u.at) a.at.way u.at.way h.there (ap (λ (p : port.Port). p.items) g.port) (ap (λ (p : port.Port). p.given) g.port) g.way h.goes;
-    ts = b.ts;
-    is = ap (wire.happens e) h.is ∙ b.is;
-    heard = b.heard;
-  }
-
-  -- Layer 3 asks.
-  asks-one : (S : ℕ) (a : TimedEndpoint) (x : FrameEndpoint) (h : Stood S a x) (r : Request) → IsOfLink service tei r → IsAskedOfLink service tei r → After x (happens (port.request r) a)
-  asks-one S a x h r of_link asked =
-      let g = asks-goes c service tei 0 ranged lengths rate a S M h.ok h.soon r of_link in
-      record {
-        S = g.S';
-        x' = wire.happens (line.request r) x;
-        stood = stood-then S a (happens (port.request r) a) x h (line.request r) g (asked-becomes r h.there a.at h.ts h.heard);
-        path = path-one service tei (requests r) asked (with x) (with (wire.happens (line.request r) x)) tt refl;
-      }
-
-  abbrev pub IsBoth : Request → Type 0
-  IsBoth r = IsOfLink service tei r × IsAskedOfLink service tei r
-
-  pub all-asks : (rs : List Request) (S : ℕ) (a : TimedEndpoint) (x : FrameEndpoint) → Stood S a x → All IsBoth rs → After x (fold asks a rs)
-  all-asks rs S a x h all = fold-keeps asks IsBoth (After x) (λ r u is g. after-both x u (asks u r) g (asks-one g.S u g.x' g.stood r is.0 is.1)) rs all a (after-none S a x h)
-
-  module _ (S : ℕ) (a : TimedEndpoint) (x : FrameEndpoint) (h : Stood S a x) (e : Expiry) (falls_now : due a.clock ≡ Some e) where
-    abbrev X : FrameEndpoint
-    X = station h.there h.ts a.at
-
-    abbrev its : LinkEndpoint
-    its = record (bare c service tei 0 ranged h.ok.but.ends.its) { way = parts c service tei ranged h.there (are-own c service tei ranged a.at h.ok.but.ends a.at.way h.there h.goes) }
-
-    X-stands : StationStands c service tei 0 (station h.there h.ts a.at) its
-    X-stands = stands c service tei ranged a.at h.ok.but.ends a.at.way h.there h.goes h.ts
-
-    long : e.timer ≡ timers.T200 service tei → IsLongEnough service tei (station h.there h.ts a.at) y
-    long same awaits =
-        let waits : is_waiting (state_number h.ok.but.ends.its.state) ≡ true = sym (same-waits (state_number h.ok.but.ends.its.state)) ∙ sym (ap awaits_in (state-is service tei c 0 X its X-stands)) ∙ awaits in
-        let at_due = due-is a.at.line a.clock.now (timers.T200 service tei) a.clock.running e h.ok.but.clock.here falls_now same in
-        let due_ago = ago S e.moment (h.ok.timer e.moment waits at_due.0) (subst (λ k. e.moment ≤ k) h.now at_due.1) in
-        let heard_long = before-long c.n201 (port_of a.at) a.at.way h.there h.goes n transit h.given h.way in let all = wide S in
-        open-here service tei c d 0 0 X y its m X-stands y_stands
-        (record {
-          commands = no-polls its (has-none c service tei ranged a.at h.ok.but.ends a.at.way h.there h.goes asks_frame (S + half c service tei 0 ranged) h.ok.but.polls (omega (arith, due_ago, heard_long, all)));
-          responses = finals S h.later due_ago;
-        })
-
-    abbrev falls_so : Timer → TimedEndpoint
-    falls_so timer = happens (port.expiry timer) (record a { clock = without_first a.clock })
-
-    fell-with : (timer : Timer) → e.timer ≡ timer → Rattle.laws_wire.specs.Losing.IsOfLink service tei timer → Rattle.laws_wire.specs.Timely.IsTimelyOf (expires timer) (with X) → After x (falls_so timer)
-    fell-with timer same own timely =
-        let g = subst (λ t. Goes c service tei 0 ranged lengths rate S M a (falls_so t)) same (fell-goes c service tei 0 ranged lengths rate a S M h.ok h.soon e falls_now) in
-        record {
-          S = g.S';
-          x' = wire.happens (line.expiry timer) x;
-          stood = stood-then S a (falls_so timer) x h (line.expiry timer) g (expired-becomes timer h.there a.at h.ts h.heard);
-          path = path-one service tei (expires timer) own (with x) (with (wire.happens (line.expiry timer) x)) (subst (λ x. Rattle.laws_wire.specs.Timely.IsTimelyOf (expires timer) (with x)) (sym h.is) timely) refl;
-        }
-
-    t200-fell : e.timer ≡ timers.T200 service tei → IsFair (falls_so (timers.T200 service tei)).at.told → After x (falls_so (timers.T200 service tei))
-    t200-fell same fair =
-        let told = ap (λ (z : FrameEndpoint). z.told) (expired-reply (timers.T200 service tei) a.at []) in
-        fell-with (timers.T200 service tei) same (refl, refl)
-        (long same, fair-may service tei 0 c X its X-stands (fair-parts a.at.told (wire.told_by (wire.answered (line.expiry (timers.T200 service tei)) X)) (subst IsFair told fair)).1)
-
-    pub falls-one : IsFair (falls a e).at.told → After x (falls a e)
-    falls-one =
-        own-timer service tei (λ timer. e.timer ≡ timer → IsFair (falls_so timer).at.told → After x (falls_so timer)) t200-fell
-        (λ same fair. fell-with (timers.T203 service tei) same (refl, refl) tt) e.timer (first-of (RunsOurs service tei) a.clock.running a.clock.now e h.ok.but.ours falls_now) refl
-
-  pub all-falls : (k S : ℕ) (a : TimedEndpoint) (x : FrameEndpoint) → Stood S a x → IsFair (fall_due k a).at.told → After x (fall_due k a)
-  all-falls k S a x h =
-      falls-keep (λ u. IsFair u.at.told → After x u)
-      (λ e u is was fair. let g = was (fair-happens (port.expiry e.timer) (record u { clock = without_first u.clock }) fair) in after-both x u (falls u e) g (falls-one g.S u g.x' g.stood e is fair)) k a (λ fair. after-none S a x h)
-
-  -- Layer 3 asks, and then what is due falls due.
-  pub all-comes : (rs : List Request) (k S : ℕ) (a : TimedEndpoint) (x : FrameEndpoint) → Stood S a x → All IsBoth rs → IsFair (fall_due k (fold asks a rs)).at.told → After x (fall_due k (fold asks a rs))
-  all-comes rs k S a x h all fair = let u = fold asks a rs in let one = all-asks rs S a x h all in after-both x u (fall_due k u) one (all-falls k one.S u one.x' one.stood fair)

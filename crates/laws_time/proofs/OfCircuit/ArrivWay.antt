@@ -106,7 +106,7 @@ module _ (n201 : ℕ) where
   pub flags-gained : (k : ℕ) (g x : List ℕ) (value : ℕ) (more : List ℕ) (left t : List Bool) → bits g ++ left ≡ flag ++ t → g ≡ x ++ value ∷ more
       → gained n201 (replicate k 0x7E ++ x) value ≡ gained n201 x value
   flags-gained k g x value more left t text is =
-      let F = replicate k 0x7E in let behind = option_to_list (gained n201 (F ++ x) value) in
+      let F : List ℕ = replicate k 0x7E in let behind = option_to_list (gained n201 (F ++ x) value) in
       one-of-two (gained n201 (F ++ x) value) (gained n201 x value) (append_cancel_left (heard_in n201 x) behind (option_to_list (gained n201 x value))
       (ap (λ h. h ++ behind) (sym (flags-before k x (begins-so g x (value ∷ more) left t text is))) ∙ sym (heard_with n201 (F ++ x) value) ∙ ap (heard_in n201) (append_assoc F x (value ∷ []))
       ∙ flags-before k (x ++ value ∷ []) (begins-so g (x ++ value ∷ []) more left t text (is ∙ sym (append_assoc x (value ∷ []) more))) ∙ heard_with n201 x value))
@@ -127,7 +127,7 @@ module _ (n201 : ℕ) where
 
 -- ---- one direction of the clocked circuit
 
--- So many flags of the beginning, and then what was given: some of it received, and the rest is in transit.
+-- So many flags of the beginning, and then what was given: some of it was received, and the rest is in transit.
 abbrev pub flagged : ℕ → Port → Port
 flagged k p = record p { given = replicate k 0x7E ++ p.given }
 
@@ -142,17 +142,17 @@ first-flow n201 k p way received here none is =
 
 -- Of the frames on its way an end heard none whose octets received with noise.
 pub record Going (n201 : ℕ) (p : Port) (way : List ℕ) (there : List (List ℕ)) : Type 0 where
-  pub flags : ℕ
+  pub many : ℕ
   pub before : List ℕ
-  pub flow : Flow n201 flags p way before there
+  pub flow : Flow n201 many p way before there
 
 -- What does not change the port and the way leaves it.
 pub going-with : (n201 : ℕ) (p q : Port) (way way' : List ℕ) (there : List (List ℕ)) → q.items ≡ p.items → q.given ≡ p.given → way' ≡ way → Going n201 p way there → Going n201 q way' there
 going-with n201 p q way way' there items given same h = record {
-  flags = h.flags;
+  many = h.many;
   before = h.before;
   flow = record {
-    given = ap (λ g. replicate h.flags 0x7E ++ g) given ∙ h.flow.given ∙ ap (λ w. h.before ++ w) (sym same);
+    given = ap (λ g. replicate h.many 0x7E ++ g) given ∙ h.flow.given ∙ ap (λ w. h.before ++ w) (sym same);
     are = ap (λ is. framed (frames_among is)) items ∙ h.flow.are;
     octets = subst (λ is. All AreOctets (frames_among is)) (sym items) h.flow.octets;
   };
@@ -160,10 +160,10 @@ going-with n201 p q way way' there items given same h = record {
 
 -- So much of what was given has come, or had to come.
 pub before-long : (n201 : ℕ) (p : Port) (way : List ℕ) (there : List (List ℕ)) (g : Going n201 p way there) (n transit : ℕ) → length p.given ≡ n → length way ≡ transit
-    → g.flags + n ≤ length g.before + transit
+    → g.many + n ≤ length g.before + transit
 before-long n201 p way there g n transit given long =
-    let all = ap length g.flow.given in let a = length-append (replicate g.flags 0x7E) p.given in let b = length-append g.before way in
-    let f : length (flags g.flags) ≡ g.flags = length-replicate {A = ℕ} g.flags 0x7E in omega (arith, all, a, b, f, given, long)
+    let all = ap length g.flow.given in let a = length-append (replicate g.many 0x7E) p.given in let b = length-append g.before way in
+    let f : length {A = ℕ} (replicate g.many 0x7E) ≡ g.many = length-replicate {A = ℕ} g.many 0x7E in omega (arith, all, a, b, f, given, long)
 
 -- ---- a pull
 
@@ -195,12 +195,12 @@ module _ (c : Config) (ranged : IsInRange c) (s : OctetEndpoint) (ran : Ran c s)
       → Flow n201 k (port_of (happens port.pull s)) (happens port.pull s).way received (if_meant (cond due (Some line.next) None) (as_endpoint there s)).way
   unfolding answer meant
   pulled-flow n201 k received h due is =
-      let Now = λ (p : Port) (due : Bool). Flow n201 k p (happens port.pull s).way received (if_meant (cond due (Some line.next) None) (as_endpoint there s)).way in
+      let Now : Port → Bool → Type 0 = λ p due. Flow n201 k p (happens port.pull s).way received (if_meant (cond due (Some line.next) None) (as_endpoint there s)).way in
       subst (Now (port_of (happens port.pull s))) is (subst (λ p. Now p (is_due (port_of s))) (sym (port-after s port.pull (within-ports c ranged s ran))) (pulled-goes n201 k s.way received h (is_due (port_of s))))
 
   pub pulled-way : (h : Going c.n201 (port_of s) s.way there) (due : Bool) → is_due (port_of s) ≡ due
       → Going c.n201 (port_of (happens port.pull s)) (happens port.pull s).way (if_meant (cond due (Some line.next) None) (as_endpoint there s)).way
-  pulled-way h due is = record { flags = h.flags; before = h.before; flow = pulled-flow c.n201 h.flags h.before h.flow due is }
+  pulled-way h due is = record { many = h.many; before = h.before; flow = pulled-flow c.n201 h.many h.before h.flow due is }
 
 -- ---- an octet goes off the way, and a frame ends there, or none
 
@@ -213,11 +213,11 @@ unflagged n201 k p way received x frames sound is given h = record {
 }
 
 -- So it does once more than the flags has come.
-pub past-flags : (n201 : ℕ) (p : Port) (way : List ℕ) (there : List (List ℕ)) (g : Going n201 p way there) → IsSoundPort n201 p → (most : ℕ) → g.flags + most < length g.before
+pub past-flags : (n201 : ℕ) (p : Port) (way : List ℕ) (there : List (List ℕ)) (g : Going n201 p way there) → IsSoundPort n201 p → (most : ℕ) → g.many + most < length g.before
     → (x : List ℕ) × Carries n201 p way x there × (most < length x)
 past-flags n201 p way there g sound most late =
-    let F = replicate g.flags 0x7E in let f : length (flags g.flags) ≡ g.flags = length-replicate {A = ℕ} g.flags 0x7E in let x = longer-begins F p.given g.before way g.flow.given (omega (arith, late, f)) in
-    let long = ap length x.1 ∙ length-append F x.0 in (x.0, unflagged n201 g.flags p way g.before x.0 there sound x.1 x.2 g.flow, omega (arith, long, f, late))
+    let F : List ℕ = replicate g.many 0x7E in let f : length {A = ℕ} (replicate g.many 0x7E) ≡ g.many = length-replicate {A = ℕ} g.many 0x7E in let x = longer-begins F p.given g.before way g.flow.given (omega (arith, late, f)) in
+    let long = ap length x.1 ∙ length-append F x.0 in (x.0, unflagged n201 g.many p way g.before x.0 there sound x.1 x.2 g.flow, omega (arith, long, f, late))
 
 -- A frame ends with the octet that comes as it was given: the first on the way.
 module _ (n201 k : ℕ) (p : Port) (value : ℕ) (more received : List ℕ) (frames : List (List ℕ)) (h : Flow n201 k p (value ∷ more) received frames) (sound : IsSoundPort n201 p) (on : IsOnItsWay p) where
@@ -281,14 +281,14 @@ module _ (n201 : ℕ) (c : Config) (ranged : IsInRange c) (size : c.n201 ≡ n20
 
   -- A frame that is gained ends there.
   its : (e : stream.Event) → o ≡ Some e → IsFrame e → gained n201 h.before value ≡ Some e
-  its e gains so = let x = clear e gains so in as-given n201 h.flags (port_of s) value more h.before there h.flow sound (on-line c ranged s ran) x.0 x.1 ∙ x.2
+  its e gains so = let x = clear e gains so in as-given n201 h.many (port_of s) value more h.before there h.flow sound (on-line c ranged s ran) x.0 x.1 ∙ x.2
 
-  then : (left : List (List ℕ)) → Flow n201 h.flags (port_of s) more (h.before ++ value ∷ []) left → Going n201 (port_of s) more left
-  then left flow = record { flags = h.flags; before = h.before ++ value ∷ []; flow = flow }
+  then : (left : List (List ℕ)) → Flow n201 h.many (port_of s) more (h.before ++ value ∷ []) left → Going n201 (port_of s) more left
+  then left flow = record { many = h.many; before = h.before ++ value ∷ []; flow = flow }
 
   pub comes : Comes
   comes = by-option (gained n201 h.before value)
-      (λ none. inl ((λ e gains so. none-some e (sym none ∙ its e gains so)), then there (none-heard n201 (flagged h.flags (port_of s)) (value ∷ more) h.before there h.flow value more refl none)))
+      (λ none. inl ((λ e gains so. none-some e (sym none ∙ its e gains so)), then there (none-heard n201 (flagged h.many (port_of s)) (value ∷ more) h.before there h.flow value more refl none)))
       (λ e some.
-      let x = brings n201 h.flags (port_of s) value more h.before there h.flow sound (on-line c ranged s ran) e some in
+      let x = brings n201 h.many (port_of s) value more h.before there h.flow sound (on-line c ranged s ran) e some in
       inr (x.first, x.rest, x.are, then x.rest x.flow, by-either (is-frame o) (λ f. inr (f.1 ∙ (sym (its f.0 f.1 f.2) ∙ some) ∙ ap (λ e. Some e) x.event, x.whole)) (λ none. inl none)))

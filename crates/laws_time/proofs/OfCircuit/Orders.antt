@@ -141,9 +141,6 @@ module _ (service : Service) (tei : ℕ) (c : Config) (s : Endpoint) (way : List
   pub expires-ours : (timer : Timer) (its : LinkTimer) → ((l : Line) → aim_of_expiry timer l ≡ at_timer service tei its (place_in l tei)) → Ours (port.expiry timer)
   expires-ours timer its aims = means-ours (port.expiry timer) (line.expiry timer) refl (expiry-ours service tei c place s.line s.card.card stands.config n.link sound-line speaks-here timer its aims)
 
-  pub expired-ours : (timer : Timer) → is_timer_of service tei timer ≡ true → Ours (port.expiry timer)
-  expired-ours timer own = let x = of-timer service tei timer own in expires-ours timer x.0 x.1
-
   pub pull-ours : Ours port.pull
   pull-ours = by-bool (is_due (port_of s))
       (λ e. means-ours port.pull line.next (ap (λ b. cond b (Some line.next) None) e) (next-ours service tei c place s.line s.card.card stands.config n.link sound-line speaks-here))

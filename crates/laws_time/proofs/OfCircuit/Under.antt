@@ -58,9 +58,6 @@ module _ (c : Config) (a : TimedEndpoint) (ran : Ran c a.at) (ev : port.Event) w
         ∙ ap (λ card. obeyed a.at.line (orders_in (machine.answer (at a.at.line what) card)) a.clock) here-is
 
 module _ (c : Config) (service : Service) (tei place : ℕ) (ranged : IsInRange c) (lengths : Lengths) (rate : ℕ) where
-  abbrev pub t200 : Timer
-  t200 = timers.T200 service tei
-
   -- An end up to the timer.
   pub record EndBut (S M : ℕ) (a : TimedEndpoint) : Type 0 where
     pub ends : Ends c service tei place ranged a.at

@@ -27,13 +27,7 @@ use Rattle.lapd_timed.proofs.Carrying.{sends, rests, has-place, carried-restart,
 use Rattle.lapd_timed.proofs.Finishing.{begins, finished}
 use Rattle.lapd_timed.proofs.Calls.{all-at}
 
--- the only one of a list, and the only two
-pub only-two : (orders : List Order) (d c o p : Order) → length orders ≡ 2 → get_or orders 0 d ≡ o → get_or orders 1 c ≡ p → orders ≡ o ∷ p ∷ []
-only-two [] d c o p two is more = absurd (omega (arith, two))
-only-two (x ∷ []) d c o p two is more = absurd (omega (arith, two))
-only-two (x ∷ y ∷ []) d c o p two is more = ap (λ z. z ∷ y ∷ []) is ∙ ap (λ z. o ∷ z ∷ []) more
-only-two (x ∷ y ∷ z ∷ orders) d c o p two is more = absurd (omega (arith, two))
-
+-- the only one of a list
 pub only-one : (orders : List Order) (d o : Order) → length orders ≡ 1 → get_or orders 0 d ≡ o → orders ≡ o ∷ []
 only-one [] d o one is = absurd (omega (arith, one))
 only-one (x ∷ []) d o one is = ap (λ y. y ∷ []) is

@@ -1,9 +1,6 @@
 -- Four lengths are read.
-use Rattle.std.proofs.Common.{arith, lit<, ◌≡◌, ℕ, ◌+◌, ◌^◌, ◌<◌, ◌≤◌, true, not, cond, List, ◌++◌, length, Option, Some, None, sym, ap, ◌∙◌, subst, append_assoc, length-append}
-use Rattle.std.proofs.lemmas.Bool.Decides.{nat_tests}
-use Rattle.lapd_clock.specs.Timer.{is_length, first_out_of_range, Lengths, AreInRange}
-use Rattle.lapd_clock.specs.declared.fault.LengthFault.{LengthFault}
-use Rattle.lapd_clock.specs.declared.fault.LengthFault.TheVariants as fault
+use Rattle.std.proofs.Common.{arith, lit<, ◌≡◌, ℕ, ◌+◌, ◌^◌, ◌<◌, List, ◌++◌, length, sym, ap, ◌∙◌, subst, append_assoc, length-append}
+use Rattle.lapd_clock.specs.Timer.{Lengths, AreInRange}
 use Rattle.lapd_image.specs.Numbers.{number}
 use Rattle.lapd_image.specs.Reads.{HasNone}
 use Rattle.lapd_image.proofs.Reading.{length-number, number-read, too_few}
@@ -38,14 +35,3 @@ none-so a b c d front rest fa fb fc fd read none l more fits e =
     let t = number-read 4 c l.t201 _ _ fc (omega (arith, fits.t201_most, most)) s.1 in
     let u = number-read 4 d l.t202 _ _ fd (omega (arith, fits.t202_most, most)) t.1 in
     none (subst AreInRange (λ i. these_lengths (sym r.0 i) (sym s.0 i) (sym t.0 i) (sym u.0 i)) fits)
-
--- those in range have no fault
-may-run : (n : ℕ) → 1 ≤ n → n ≤ 3600000 → is_length n ≡ true
-may-run n least most = grind (arith, nat_tests)
-
-pub no-fault : (l : Lengths) → AreInRange l → first_out_of_range l ≡ None
-no-fault l h = λ i.
-    cond {A = Option LengthFault} (not (may-run l.t200 h.t200 h.t200_most i)) (Some fault.T200)
-    (cond {A = Option LengthFault} (not (may-run l.t203 h.t203 h.t203_most i)) (Some fault.T203)
-    (cond {A = Option LengthFault} (not (may-run l.t201 h.t201 h.t201_most i)) (Some fault.T201)
-    (cond {A = Option LengthFault} (not (may-run l.t202 h.t202 h.t202_most i)) (Some fault.T202) None)))

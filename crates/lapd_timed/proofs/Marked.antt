@@ -39,10 +39,6 @@ length-set [] j x = refl
 length-set (y ∷ ys) zero x = refl
 length-set (y ∷ ys) (suc j) x = ap suc (length-set ys j x)
 
--- what is past stays so
-pub past-later : (now later : ℕ) (moments : List ℕ) → now ≤ later → All (λ moment. moment ≤ now) moments → All (λ moment. moment ≤ later) moments
-past-later now later moments on past = λ i d there. omega (arith, on, past i d there)
-
 -- one link is noted
 module _ (i state now : ℕ) (h : HeldMarks) where
   abbrev by : Bool → HeldMarks

@@ -143,9 +143,6 @@ module _ (card : Card) (terminals line : ℕ) (there : line < card.config.lines)
 
   -- ---- the links of a line
 
-  pub no-links : (front : List ℕ) (es : List Expiry) → ArePlacesOf card terminals es → AreLinksRead card terminals line 0 front front es es
-  no-links front es places = record { places = places; octets = refl; here = λ n k h. absurd (omega (arith, h)); others = λ i apart. refl }
-
   other-slot : (m n : ℕ) (j k : LinkTimer) → m < n → slot m j ≢ slot n k
   other-slot m n link.T200 link.T200 h e = omega (arith, h, e)
   other-slot m n link.T200 link.T203 h e = omega (arith, h, e)

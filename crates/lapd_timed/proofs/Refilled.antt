@@ -36,9 +36,6 @@ part line ts c = flat_map (moment c line) ts
 one-part : (line : ℕ) (timer : Timer) (ts : List Timer) (c : Clock) → timer ∷ [] ≡ ts → part line ts c ≡ number 8 (unwrap_or (moment_of line timer c.running) 0)
 one-part line timer ts c is = ap (λ xs. flat_map (moment c line) xs) (sym is) ∙ append-nil (moment c line timer)
 
-pub passes-none : {latest : ℕ} (line : ℕ) (ts : List Timer) (old : List ℕ) → [] ≡ ts → Passes (part line ts) (FallsUntil latest) old old
-passes-none {latest} line ts old none c rest fits e = e ∙ ap (λ xs. flat_map (moment c line) xs ++ rest) (sym none)
-
 pub passes-one : {latest : ℕ} → latest < never → (line place : ℕ) (timer : Timer) (ts : List Timer) (old new : List ℕ) (es after : List Expiry) → timer ∷ [] ≡ ts → IsStartedBy place timer old new es after
     → Passes (part line ts) (FallsUntil latest) old new
 passes-one {latest} some line place timer ts old new es after is started c rest fits e =

@@ -102,9 +102,6 @@ none-of-moment m l front after_lengths one none c changed rest may e =
     none c.now (moments m c ++ (flat_map changes changed ++ rest)) may.clock.now
     ((front-read (lengths l) (lengths c.lengths) _ _ (sixteen l ∙ sym (sixteen c.lengths)) (sym one.octets ∙ e ∙ parts m c changed rest)).1)
 
-pub none-of-lengths : (m : Card) (front : List ℕ) → HasNone lengths AreInRange front → HasNoTimers m front
-none-of-lengths m front none c changed rest may e = none c.lengths _ may.clock.lengths (e ∙ parts m c changed rest)
-
 -- The timers of a card take as many octets at each clock.
 same-lengths : (f g : ℕ → List ℕ) → ((n : ℕ) → length (f n) ≡ length (g n)) → (ns : List ℕ) → length (flat_map f ns) ≡ length (flat_map g ns)
 same-lengths f g same [] = refl

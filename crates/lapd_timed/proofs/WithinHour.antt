@@ -8,7 +8,7 @@ use Rattle.lapd_clock.specs.Timer.{duration, AreInRange, Order, Start, Stop, Tim
 use Rattle.lapd_clock.specs.Timer as clock
 use Rattle.lapd_clock.specs.Timers.{is_before, is_of, without, Expiry}
 use Rattle.lapd_clock.specs.declared.lengths.Lengths.{Lengths}
-use Rattle.model_timed.specs.Clock.{at_moment, obey, with_lengths, without_first, Clock}
+use Rattle.model_timed.specs.Clock.{obey, without_first, Clock}
 use Rattle.lapd_timed.specs.Stands.{FallsWithinHour}
 
 pub in-range : (l : Lengths) → AreInRange (lengths_of l)
@@ -48,12 +48,6 @@ hour-obeyed line (Start timer) c within = record {
 }
 hour-obeyed line (Stop timer) c within = record { lengths = within.lengths; moments = stopped-soon line timer c within }
 
--- time that goes on, other lengths, and what falls due
-pub hour-later : (moment : ℕ) (c : Clock) → c.now ≤ moment → FallsWithinHour c → FallsWithinHour (at_moment moment c)
-hour-later moment c later within = record { lengths = within.lengths; moments = λ i d there. omega (arith, later, within.moments i d there) }
-
-pub hour-lengths : (lengths : clock.Lengths) (c : Clock) → AreInRange lengths → FallsWithinHour c → FallsWithinHour (with_lengths lengths c)
-hour-lengths lengths c range within = record { lengths = range; moments = within.moments }
-
+-- and what falls due
 pub hour-first : (c : Clock) → FallsWithinHour c → FallsWithinHour (without_first c)
 hour-first c within = record { lengths = within.lengths; moments = All-drop (IsSoon c.now) 1 c.running within.moments }

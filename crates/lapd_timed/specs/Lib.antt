@@ -1,4 +1,4 @@
--- A card that keeps its own timers.
+-- A card that keeps its own timers, or one whose timers are its owner's.
 --
 -- Read after those of `model_timed` and OwnPlaces of `lapd_clock`: OfCard, Places, Marked, Touches, Named, Stands, Carried, Kinds,
 -- TimedStands, Called, MomentsImage, MomentsRead, Image.

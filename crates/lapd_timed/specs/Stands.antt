@@ -81,7 +81,7 @@ AreAmid e timers m clock = AreAt (IsOnAmid e m) (held timers) m clock
 abbrev pub ChangesStand : CardTimers → Card → Marks → Type 0
 ChangesStand timers card marks = AreMarks timers.lines (2 * timers.terminals) timers.changes card marks
 
--- A card may keep its own timers, or none: then nothing is said of a clock, nor of marks.
+-- A card may keep its own timers, or none: then it stands for no clock, nor for marks.
 abbrev pub TimersStandIn : Option CardTimers → Card → Clock → Type 0
 TimersStandIn None card clock = ⊥
 TimersStandIn (Some timers) card clock = TimersStand timers card clock

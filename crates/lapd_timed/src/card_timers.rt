@@ -91,7 +91,7 @@ impl CardTimers {
 
     /// The moment, in milliseconds.
     pub fn now(&self) -> u64
-        ensures { (m : Card) (c : Clock) → TimersStand self.now m c → result ≡ c.now }
+        ensures { result ≡ self.now.moment }
     {
         self.moment
     }

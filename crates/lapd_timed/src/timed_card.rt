@@ -33,14 +33,15 @@ use lapd_card::{AnyCard, BareReport, Fault, NextFrame, Pulled, Request, RoomTooS
 use lapd_clock::Lengths;
 use lapd_frame::{Order, Refusal, Service, ShortList, Timer};
 
-/// A card of either kind, and the timers of it. Whatever happens to it happens at the moment that it was told last, and what it
-/// orders of its timers is carried out then: of the orders in its answers nothing is left to do.
+/// A card of either kind that keeps its own timers, or one that keeps none. Its calls are those of [`AnyCard`] and of the card of
+/// its kind.
 ///
-/// Its calls are those of [`AnyCard`] and of the card of its kind, except that for an expiry: what is due falls due by
+/// What happens to one that keeps its timers happens at the moment that it was told last, and what it orders of them is carried
+/// out then. Of the orders in its answers nothing is left to do. No call says that a timer expired: what is due falls due by
 /// [`TimedCard::fall_due`].
 ///
-/// Or it keeps no timers, and they are its owner's, who carries out the orders in its answers, and says which timer expired
-/// ([`TimedCard::expire`]).
+/// The timers of one that keeps none are its owner's, who carries out the orders in its answers, and says which timer expired
+/// ([`TimedCard::expire`]). It has no moments, and nothing falls due.
 #[derive(Debug, Drop)]
 pub struct TimedCard {
     card: AnyCard,
@@ -88,9 +89,9 @@ impl TimedCard {
         self.timers.is_some()
     }
 
-    /// The moment, in milliseconds.
+    /// The moment, in milliseconds; 0 if it keeps no timers.
     pub fn now(&self) -> u64
-        ensures { (m : Card) (c : Clock) → TimersStandIn self.now.timers m c → result ≡ c.now }
+        ensures { result ≡ moment_of self.now.timers }
     {
         match &self.timers {
             Some(timers) => timers.now(),
@@ -128,11 +129,11 @@ impl TimedCard {
         }
     }
 
-    /// The time is now this moment, in milliseconds.
+    /// The time is now this moment, in milliseconds. Nothing changes if it keeps no timers.
     ///
     /// # Errors
     ///
-    /// [`WrongTime`] if it is before the last moment, or from `2^63` on. Nothing has changed then.
+    /// [`WrongTime`] if it is before the last moment ([`TimedCard::now`]), or from `2^63` on. Nothing has changed then.
     pub fn go_to(&mut self, moment: u64) -> Result<(), WrongTime>
         ensures refused { IsErr result ↔ ((moment < moment_of self.old.timers) ⊎ (2 ^ 63 ≤ moment)) }
         ensures unchanged { OnErr result (self.new ≡ self.old) }
@@ -153,7 +154,7 @@ impl TimedCard {
     }
 
     /// The time is now this moment, if it may be, and none is due then, as is known without a look. Whether it is so; if not,
-    /// nothing changes.
+    /// nothing changes. It never is so of a card that keeps no timers.
     #[inline(always)]
     pub fn pass(&mut self, moment: u64) -> bool
         ensures passed { result ≡ true → FindsNone moment self.old self.new }
@@ -166,10 +167,11 @@ impl TimedCard {
     }
 
     /// What is due first, if anything is: it expires, and the report tells what this led to. The answer is which timer of which
-    /// line it was; none if none is due, and then nothing changes.
+    /// line it was; none if none is due, or it keeps no timers, and then nothing changes.
     pub fn fall_due(&mut self, report: &mut BareReport) -> Option<(usize, Timer)>
         requires clear { IsClear report.old }
         ensures due { (m : Card) (c : Clock) → TimersStandIn self.old.timers m c → result ≡ option_map named_by (due c) }
+        ensures without { self.old.timers ≡ None → result ≡ None }
         ensures timed { keeps_timers self.new ≡ keeps_timers self.old }
         ensures fell { IfSome result (λ d. Fell d report.new self.old.card self.new.card) }
         ensures after { Steps falls_due falls_due self.old self.new }
@@ -187,9 +189,10 @@ impl TimedCard {
         Some((line, timer))
     }
 
-    /// The moment, in milliseconds, of the timer that falls due first, due or not, and `None` if no timer runs.
+    /// The moment, in milliseconds, of the timer that falls due first, due or not, and `None` if no timer runs, or it keeps none.
     pub fn next_moment(&mut self) -> Option<u64>
         ensures next { (m : Card) (c : Clock) → TimersStandIn self.old.timers m c → result ≡ next_moment c }
+        ensures without { self.old.timers ≡ None → result ≡ None }
         ensures unchanged { self.new ≡ self.old }
     {
         match &mut self.timers {
@@ -203,8 +206,9 @@ impl TimedCard {
     /// is not on the line, or no timers are kept.
     pub fn changed_at(&self, line: usize, service: Service, tei: u8) -> Option<u64>
         requires within { line < line_count self.now.card }
-        ensures { (m : Machine) (marks : Marks) → AnyStands self.now.card m → ChangesStandIn self.now.timers (card_in m) marks
+        ensures changed { (m : Machine) (marks : Marks) → AnyStands self.now.card m → ChangesStandIn self.now.timers (card_in m) marks
             → result ≡ option_map (moment_in marks line) (link_on service tei (line_at line (card_in m))) }
+        ensures without { self.now.timers ≡ None → result ≡ None }
     {
         match &self.timers {
             Some(timers) => timers.changed_at(self.card.frames(), line, service, tei),

@@ -11,7 +11,7 @@ use model_bits::Heard;
 
 /// That of a frame that comes, by its second octet.
 #[inline(always)]
-pub fn tei_of_frame(octets: &[u8]) -> u8
+pub(crate) fn tei_of_frame(octets: &[u8]) -> u8
     ensures { (result ≡ 127) ⊎ (result ≡ slice_index octets.now 1 / 2) }
 {
     match octets.get(1) {
@@ -22,7 +22,7 @@ pub fn tei_of_frame(octets: &[u8]) -> u8
 
 /// That of what an octet has ended.
 #[inline(always)]
-pub fn tei_of_heard(heard: Heard<'_>) -> u8
+pub(crate) fn tei_of_heard(heard: Heard<'_>) -> u8
     ensures { IfSome (heard_of heard.entry) (MayTouch result) }
 {
     match heard {
@@ -34,7 +34,7 @@ pub fn tei_of_heard(heard: Heard<'_>) -> u8
 
 /// That of a timer that expires.
 #[inline(always)]
-pub fn tei_of_timer(timer: Timer) -> u8
+pub(crate) fn tei_of_timer(timer: Timer) -> u8
     ensures { result ≡ touched_by_timer timer }
 {
     match timer {
@@ -45,7 +45,7 @@ pub fn tei_of_timer(timer: Timer) -> u8
 
 /// That of a request; none of unit data, which is of no link.
 #[inline(always)]
-pub fn tei_of_request(request: &Request<'_>) -> Option<u8>
+pub(crate) fn tei_of_request(request: &Request<'_>) -> Option<u8>
     ensures { result ≡ touched_by (request_of request.now) }
 {
     match request {

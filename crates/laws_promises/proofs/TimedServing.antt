@@ -44,9 +44,9 @@ pub record Happened {Card Event : Type 0} (d : DrivenKind Card Event) (e : Event
   pub counted : (t : Timed Card) → d.Stand old t → counters_of new.card ≡ all_counted (counters_of old.card) (d.counts t.card (e ∷ []))
   pub answers : (t : Timed Card) → d.Stand old t → reply ≡ d.says e t.card
 
--- The moment of a card is that of its clock.
+-- The moment of a card.
 abbrev pub IsNow : ℕ → TimedCard → Type 0
-IsNow moment c = (m : cards.Card) (k : Clock) → TimersStandIn c.timers m k → moment ≡ k.now
+IsNow moment c = moment ≡ moment_of c.timers
 
 -- What is noted of the links, if it was so of those of the card, is so after a step; and after one that is not refused.
 abbrev pub IsNoted : {Card Event : Type 0} → DrivenKind Card Event → Step Event → TimedCard → TimedCard → Type 0
@@ -213,7 +213,7 @@ module _ {Card Event : Type 0} (d : DrivenKind Card Event) where
           handed P p t stood =
               let u = served d.kind s t in
               let there = is_driven.timers new u (led.stands t stood) in
-              subst (λ n. P before n (answer d.kind d.says s t) then) (led.now there.0 u.clock there.1) (subst (λ a. P before moment a then) (led.answers t stood) p)
+              subst (λ n. P before n (answer d.kind d.says s t) then) (led.now ∙ sym (moment-is new.timers there.0 u.clock there.1)) (subst (λ a. P before moment a then) (led.answers t stood) p)
 
 -- A card that stands for no machine of a kind serves any step of it.
 module _ {Card Event C F K E : Type 0} {takes misses : K → ℕ → Answer → K → Type 0} {failures : K → ℕ} (d : DrivenKind Card Event) (other : DrivenKind C F) where

@@ -32,6 +32,9 @@ const LONGEST: usize = MOST_N201 as usize + 4;
 /// its moment. Answers how many events there were. Each event is one that a card of this kind takes, as `specs/TimedDrive` has
 /// it.
 ///
+/// A run is told of each timed machine for which the card stands. A card that keeps no timers stands for none: of it the contract
+/// says no more than that it keeps its kind and its configuration, what the answer is, and whether the sink has failed.
+///
 /// - `run`: the card stays of its kind, and keeps its configuration. If the sink takes every reply, the card is where the timed
 ///   machine is after all events. The sink was handed the machine's reply to each, once and in order, and the counters have
 ///   counted the events of the card that they mean. If the sink missed a reply, all this is so up to that event. A moment that

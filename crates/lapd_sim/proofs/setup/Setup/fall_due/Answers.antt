@@ -4,6 +4,7 @@ use Rattle.std.specs.Prelude.{max}
 use Rattle.lapd_timed.specs.Places.{named_by}
 use Rattle.lapd_timed.specs.Stands.{TimersStandIn}
 use Rattle.lapd_timed.specs.declared.timed_card.TimedCard.{TimedCard}
+use Rattle.lapd_timed.proofs.Steps.{moment-is}
 use Rattle.model_timed.specs.Clock.{at_moment, due}
 use Rattle.lapd_sim.proofs.Boards.{as_before}
 use Rattle.lapd_sim.proofs.Falling.{falls_then, first_later, has_expired, none_if, none_runs}
@@ -25,7 +26,7 @@ pub go_to-requires-clause-end : goal.go_to-requires-clause-end
 go_to-requires-clause-end c =
     let m = c.requires.stands in
     let timers = subst (λ (t : TimedCard). TimersStandIn t.timers m.0.board.card.card m.0.clock) (sym c.next_moment.ensures.unchanged) m.1.timers.timed in
-    omega (arith, c.requires.end, c.if-moment-end.false, c.now-now.ensures m.0.board.card.card m.0.clock timers, m.2)
+    omega (arith, c.requires.end, c.if-moment-end.false, c.now-now.ensures, moment-is _ m.0.board.card.card m.0.clock timers, m.2)
 
 pub go_to-requires-clause-stands : goal.go_to-requires-clause-stands
 go_to-requires-clause-stands c =
@@ -33,14 +34,14 @@ go_to-requires-clause-stands c =
     let timers = subst (λ (t : TimedCard). TimersStandIn t.timers m.0.board.card.card m.0.clock) (sym c.next_moment.ensures.unchanged) m.1.timers.timed in (
       m.0,
       as_before c.args.self.now _ refl c.next_moment.ensures.unchanged refl refl refl m.0 m.1,
-      omega (arith, c.now-now.ensures m.0.board.card.card m.0.clock timers),
+      omega (arith, c.now-now.ensures, moment-is _ m.0.board.card.card m.0.clock timers),
     )
 
 pub returns-in_err-line-clause-none : goal.returns-in_err-line-clause-none
 returns-in_err-line-clause-none c = none_if c.from_residual-in_err-line.result c.from_residual-in_err-line.ensures (λ m h.
     let moment = c.in_ok-moment.moment in
     let timers = subst (λ (t : TimedCard). TimersStandIn t.timers m.board.card.card m.clock) (sym c.next_moment.ensures.unchanged) h.timers.timed in
-    let now : c.now-now.result ≡ m.clock.now = c.now-now.ensures m.board.card.card m.clock timers in
+    let now : c.now-now.result ≡ m.clock.now = omega (arith, c.now-now.ensures, moment-is _ m.board.card.card m.clock timers) in
     let max_is : c.max.result ≡ max m.clock.now moment = omega (arith, now) in
     let stands = c.go_to.ensures.after m (as_before c.args.self.now _ refl c.next_moment.ensures.unchanged refl refl refl m h) in
     absurd (falls_then c.args.end moment m.clock (c.in_ok-moment.ensures.next m.board.card.card m.clock h.timers.timed) (omega (arith, c.if-moment-end.false))
@@ -51,7 +52,7 @@ returns-clause-due c = λ m h.
     let moment = c.in_ok-moment.moment in
     let timer = c.in_ok-line.field-0-1 in
     let timers = subst (λ (t : TimedCard). TimersStandIn t.timers m.board.card.card m.clock) (sym c.next_moment.ensures.unchanged) h.timers.timed in
-    let now : c.now-now.result ≡ m.clock.now = c.now-now.ensures m.board.card.card m.clock timers in
+    let now : c.now-now.result ≡ m.clock.now = omega (arith, c.now-now.ensures, moment-is _ m.board.card.card m.clock timers) in
     let max_is : c.max.result ≡ max m.clock.now moment = omega (arith, now) in
     let stands = c.go_to.ensures.after m (as_before c.args.self.now _ refl c.next_moment.ensures.unchanged refl refl refl m h) in
     has_expired c.args.self.now c.go_to.new.self _ c.args.end moment c.in_ok-line.line timer c.fall_due.new.report m (c.in_ok-moment.ensures.next m.board.card.card m.clock h.timers.timed)

@@ -27,7 +27,7 @@ use Rattle.lapd_c.specs.declared.link_marks.LinkMarks.{LinkMarks}
 use Rattle.lapd_c.specs.Slots.{HeldCard, HeldClock}
 use Rattle.lapd_c.specs.Cards.{card_of, marks_at, marks_held, HandleStands, StandsIn}
 use Rattle.lapd_c.specs.ClockImages as clock_image
-use Rattle.lapd_c.specs.ClockImages.{IsClockRestore, IsSavedAs}
+use Rattle.lapd_c.specs.ClockImages.{IsSavedAs}
 use Rattle.lapd_c.specs.Clocks.{clock_of}
 use Rattle.lapd_c.specs.Config.{config_in}
 use Rattle.lapd_c.specs.Kept.{timers_held}

@@ -21,7 +21,7 @@ pub use Rattle.lapd_c.specs.Answers.{ShowsAnswer, ShowsReply}
 pub use Rattle.lapd_c.specs.Exchange.{answer_after, card_after, tells_nothing, step_event, with_step}
 unfoldable pub use Rattle.lapd_c.specs.Exchange.{AllQuiet, given_after, steps_made}
 pub use Rattle.lapd_c.specs.Frames.{frame_comes, goes, next_at}
-pub use Rattle.lapd_card.specs.Kinds.{AnyStands, CardStands, FrameCardStands, Machine, alone, card_in, shelf_of, with_ports}
+pub use Rattle.lapd_card.specs.Kinds.{AnyStands, FrameCardStands, Machine, alone, card_in, with_ports}
 pub use Rattle.lapd_c.specs.Laws.{ContentsFit, contents_in}
 pub use Rattle.lapd_c.specs.Links.{AreFree, state_at}
 pub use Rattle.lapd_c.specs.Orders.{after_orders, all_placed, first_fault_in}
@@ -29,7 +29,6 @@ pub use Rattle.lapd_c.specs.declared.kept.KeptCard.{KeptCard}
 pub use Rattle.lapd_card.specs.declared.kinds.AnyCard.{AnyCard}
 pub use Rattle.lapd_card.specs.declared.kinds.AnyCard.TheVariants.{Frames, Octets}
 pub use Rattle.lapd_card.proofs.OctetsTaken.{meanings-count, octets-more}
-pub use Rattle.lapd_card.specs.Counted.{counters_in}
 pub use Rattle.lapd_clock.specs.Timers.{Timers}
 pub use Rattle.lapd_count.specs.declared.counters.Counters.{Counters}
 pub use Rattle.lapd_frame.specs.declared.controls.Control.{Control}
@@ -52,7 +51,7 @@ unfoldable pub use Rattle.model_card.specs.Run.{moments}
 pub use Rattle.model_line.proofs.ProperAims.{event_aims}
 pub use Rattle.model_line.proofs.Ranges.{ranges_of}
 pub use Rattle.model_line.specs.Effect.{Effect, of_aim, of_change, of_link, of_management, told_of_management, without_units}
-pub use Rattle.model_line.specs.Event.{Answer, LineTold, expiry, nothing, hears, next, refused, request, told}
+pub use Rattle.model_line.specs.Event.{Answer, LineTold, expiry, nothing, hears, next, request, told}
 pub use Rattle.model_line.specs.Line.{Line}
 pub use Rattle.model_line.specs.Machine.{unless_refused_told}
 pub use Rattle.model_line.specs.Refusal.{refusal}

@@ -3,11 +3,9 @@ use Rattle.lapd_c.proofs.Vocabulary.{arith, ◌≡◌, ℕ, List, drop, Option, 
 use Rattle.std.proofs.Common.{Some, IfSome, length, ◌≤◌}
 use Rattle.std.proofs.Math.Nat.{min-eq_left}
 use Rattle.std.proofs.lemmas.List.{length-take}
-use Rattle.lapd_frame.specs.ShortLists.{listed}
 use Rattle.lapd_c.specs.Frames.{IsGiven}
 use Rattle.model_line.specs.Came.{came}
 use Rattle.model_line.specs.Event as line
-use Rattle.model_line.specs.Laws.{orders_in}
 use Rattle.model_card.specs.Machine as machine
 use Rattle.lapd_card.specs.FrameCard as frames
 use Rattle.lapd_card.proofs.OneOctet.{none_leaves, none_counts}
@@ -36,7 +34,3 @@ given_written i m out out' count next is o rest same = grind (arith, IfSome, len
 pub none_said : {X : Type 0} (P : X → Type 0) (o : Option X) → o ≡ None → IfSome o P
 none_said P None is = tt
 none_said P (Some x) is = absurd (cc)
-
--- the orders of what is given are those of the answer
-pub orders_of_next : (i : ℕ) (m : Card) (out : List ℕ) (given : NextFrame) → gave_in out (Some given) ≡ machine.answer (goes i) m → listed given.orders ≡ orders_in (machine.answer (goes i) m)
-orders_of_next i m out given is = ap orders_in is

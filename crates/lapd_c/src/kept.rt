@@ -20,7 +20,7 @@ use model_line::Config;
 use std::alloc::Global;
 
 /// A card, with its timers if it keeps its own, and the marks of its links that wait for room.
-#[derive(Debug, Drop)]
+#[derive(Drop)]
 pub(crate) struct KeptCard {
     pub(crate) timed: TimedCard,
     pub(crate) refused: Refused,

@@ -7,7 +7,7 @@ use crate::plain::LINK_PLACES;
 use lapd_line::Marks;
 
 /// Which links of a line are marked, by their places.
-#[derive(Clone, Copy, Debug)]
+#[derive(Clone, Copy)]
 pub(crate) struct LinkMarks {
     /// The marks of 64 places each.
     words: [Marks; 4],

@@ -9,7 +9,7 @@ use std::marker::Model;
 
 /// A mark for each link of each line. It knows of which lines there are any, so that a card that has none, as mostly, costs
 /// a call one look.
-#[derive(Debug, Drop)]
+#[derive(Drop)]
 pub(crate) struct Refused {
     /// The lines of which links are marked.
     lines: Marks,

@@ -3,7 +3,8 @@
 //! crates. Starts without memory are in `tests/memory`, streams that fail or come in pieces in `tests/devices`.
 //!
 //! - `calls`: each call that runs a list of events, at a card of octets, of frames, and of either with its own timers.
-//! - `starts`: starts at the ends of their ranges. `words`: what faults say. `checks`: how a check of a TEI ends. `flushes`: a writer that keeps what it is given.
+//! - `starts`: starts at the ends of their ranges. `words`: what faults say. `checks`: how a check of a TEI ends. `flushes`: a
+//!   writer that keeps what it is given.
 //! - `kept`: `keep_replies`, which shows by its contract what a caller of `drive` can conclude.
 //!
 //! `specs/` and `proofs/` have worked values of the definitions of the lower crates, of `model_bits`, of `lapd_count` and of

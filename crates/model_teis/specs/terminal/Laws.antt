@@ -55,6 +55,9 @@ abbrev pub RoomIsEnough : Type 0
 RoomIsEnough = (terminals seed : ℕ) (acts : List Act) → terminals ≤ 8 → seed < 65536 → AreInRange acts
     → length (after_acts acts (fresh terminals seed)).waiting ≤ terminals + 1
 
+abbrev pub NoneIsLost : Type 0
+NoneIsLost = (e : Event) (m : Terminal) → (told e m).lost ≡ 0
+
 -- An event lets one message more wait at most; a check of all TEIs, one for each.
 abbrev pub more_most : Event → Terminal → ℕ
 more_most (message octets) m = max 1 (length m.places)

@@ -1,6 +1,6 @@
 //! What holds of the table of TEI management of a terminal itself.
 
-ghost use Rattle.model_teis.specs.terminal.Laws.{IsSoundThroughout, RoomIsEnough, FewMoreWait, ChangesAreTold, NoneIsTaken, EachWasGiven, T202Follows, ExpiredT202Follows, NumbersGoOn, UnservedChangesNothing, DownGivesUp};
+ghost use Rattle.model_teis.specs.terminal.Laws.{IsSoundThroughout, RoomIsEnough, NoneIsLost, FewMoreWait, ChangesAreTold, NoneIsTaken, EachWasGiven, T202Follows, ExpiredT202Follows, NumbersGoOn, UnservedChangesNothing, DownGivesUp};
 ghost use Rattle.model_teis.specs.terminal.Numbers.{NoneComesAgain, AllComeAgain};
 
 /// A line is sound from a fresh one of at most eight places on, after any events and pulls whose requests put on the line
@@ -11,6 +11,7 @@ ghost use Rattle.model_teis.specs.terminal.Numbers.{NoneComesAgain, AllComeAgain
 pub fn no_message_is_lost()
     ensures sound { IsSoundThroughout }
     ensures room { RoomIsEnough }
+    ensures lost { NoneIsLost }
     ensures more { FewMoreWait }
 {}
 

@@ -23,7 +23,7 @@ use Rattle.model_timed.specs.Frames as of_frames
 use Rattle.model_timed.specs.Octets as of_octets
 use Rattle.model_timed.specs.Timed.{happens, time}
 use Rattle.lapd_timed.specs.Kinds.{LedByFrames, LedByOctets}
-use Rattle.lapd_timed.specs.Stands.{TimersStandIn}
+use Rattle.lapd_timed.specs.Stands.{moment_of, TimersStandIn}
 use Rattle.lapd_timed.specs.TimedStands.{FramesMarked, FramesStand, OctetsMarked, OctetsStand, Steps}
 use Rattle.lapd_timed.specs.declared.timed_card.TimedCard.{TimedCard}
 
@@ -56,9 +56,10 @@ pub record CalledOfBoth (o : octet.Event) (e : frame.Event) (answered : line.Ans
   pub after : Steps (happens o) (happens e) old new
   pub timed : keeps_timers new ≡ keeps_timers old
 
--- The time has come to this moment, and the card inside is as it was.
+-- The time has come to this moment, if the card keeps its own timers, and the card inside is as it was.
 pub record Went (moment : ℕ) (old new : TimedCard) : Type 0 where
   pub card : new.card ≡ old.card
+  pub now : keeps_timers old ≡ true → moment_of new.timers ≡ moment
   pub after : Steps (time moment) (time moment) old new
   pub timed : keeps_timers new ≡ keeps_timers old
 

@@ -11,6 +11,7 @@ returns-in-Some-clause-passed c = λ is. record {
   timed = ap is_some c.in-Some.is;
   went = record {
     card = refl;
+    now = λ keeps. c.pass.ensures.now is;
     after = time-steps c.args.moment c.args.self.now _ refl (λ m k stood. (c.pass.ensures.passed is m k (subst (λ o. TimersStandIn o m k) c.in-Some.is stood)).3)
         (λ m marks stood. still-marked c.in-Some.is c.pass.new.self m marks c.pass.ensures.lines c.pass.ensures.terminals c.pass.ensures.changes stood);
     timed = sym (ap is_some c.in-Some.is);

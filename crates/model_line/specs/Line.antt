@@ -1,5 +1,5 @@
 -- A line: TEI management, the links of its TEIs, unit data that waits, and whose turn it is.
-use Rattle.std.specs.Prelude.{ℕ, ◌+◌, ◌*◌, ◌/◌, ◌%◌, ◌==◌, Bool, false, List, [], replicate, get_or, set, Option, None, is_some, option_map, if◌then◌else◌}
+use Rattle.std.specs.Prelude.{◌≡◌, ℕ, ◌+◌, ◌*◌, ◌/◌, ◌%◌, ◌==◌, Bool, false, List, [], replicate, get_or, set, Option, None, is_some, option_map, if◌then◌else◌, refl}
 use Rattle.std.specs.Option.{option_map_or, unwrap_or}
 use Rattle.lapd_frame.specs.declared.addresses.Side.{Side}
 use Rattle.lapd_frame.specs.declared.addresses.Side.TheVariants.{User, Network}
@@ -7,7 +7,7 @@ use Rattle.lapd_frame.specs.declared.services.Service.{Service}
 use Rattle.lapd_frame.specs.declared.services.Service.TheVariants.{Call, Packet}
 use Rattle.model_link.specs.declared.counts.LinkCounts.{LinkCounts}
 use Rattle.model_link.specs.declared.terms.Terms.{Terms}
-use Rattle.model_link.specs.Link.{Link, fresh, state_number}
+use Rattle.model_link.specs.Link.{Link, fresh, most_repeats, state_number}
 use Rattle.model_teis.specs.network.Machine.{Management, empty, place}
 use Rattle.model_teis.specs.Table.{is_on}
 use Rattle.model_teis.specs.terminal.Machine as terminals
@@ -93,9 +93,13 @@ terms c service tei = record {
   reading = c.reading;
 }
 
--- How often SABME, DISC or the enquiry may be repeated, in the state of this number (clause 5.9.2): `most_repeats` of each link.
+-- How often SABME, DISC or the enquiry may be repeated, in the state of this number (clause 5.9.2):
 abbrev pub repeats_in : Config → ℕ → ℕ
 repeats_in c state = c.n200
+
+-- as each of its links has it.
+as_each_link : (c : Config) (service : Service) (tei state : ℕ) → repeats_in c state ≡ most_repeats (terms c service tei) state
+as_each_link c service tei state = refl
 
 -- How often a command goes at most until it is answered: once, and N200 times again (clause 5.9.2).
 abbrev pub tries : Config → ℕ

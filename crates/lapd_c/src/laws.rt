@@ -22,9 +22,9 @@ pub fn as_before()
     ensures { AsBefore }
 {}
 
-/// A link on which contents were refused, as its queue was full, waits from then on. It waits on, whatever calls come, until it is
-/// told or its TEI leaves the line. After each call of its line the report tells of one that waits and has a place, if there is
-/// any, and of no other link.
+/// A link on which contents were refused, as its queue was full, waits from then on. It waits on, whatever calls come,
+/// until it is told or its TEI leaves the line. After each call of its line the report tells of one that waits and has a
+/// place, if there is any, and of no other link.
 #[tactic(auto, using(crate::proofs::Waits::links_reopen_by))]
 pub fn links_reopen()
     ensures { LinksReopen }
@@ -44,18 +44,19 @@ pub fn orders_are_carried_out()
     ensures { OrdersAreCarriedOut }
 {}
 
-/// Numbers mean what `include/lapd.h` says: those of notes, errors, causes, faults, timers, orders, requests, refusals and fields;
-/// and lengths, rooms and heads are those of the card. A card has the configuration that its start was given, field by field. The
-/// side is 0 for the network's, 1 for a trunk's end and 2 for a terminal, which alone has a first reference number. A SAPI of 0 stands
-/// for 16.
+/// Numbers mean what `include/lapd.h` says: those of notes, errors, causes, faults, timers, orders, requests, refusals and
+/// fields; and lengths, rooms and heads are those of the card. A card has the configuration that its start was given, field
+/// by field. The side is 0 for the network's, 1 for a trunk's end and 2 for a terminal, which alone has a first reference
+/// number. A SAPI of 0 stands for 16.
 #[tactic(auto, using(crate::proofs::Numbers::numbers_are_given_by))]
 pub fn numbers_are_given()
     ensures { NumbersAreGiven }
 {}
 
 /// A call is the event that `include/lapd.h` says, of the line that is given and of the cards that it is for: an octet, a pull, a
-/// frame, a fault, a call for the next frame, the expiry of each timer, and each request. At a card of octets a request and an expiry
-/// are those events of its machine, of which the laws of octets speak, and at a card of frames each event is itself.
+/// frame, a fault, a call for the next frame, the expiry of each timer, and each request. At a card of octets a request and
+/// an expiry are those events of its machine, of which the laws of octets speak, and at a card of frames each event is
+/// itself.
 ///
 /// A call that is an event is served: the card stands for the machine after it, and the report tells the machine's answer,
 /// place by place; without orders if the card keeps its own timers, whose clock then has carried them out. What is noted of its
@@ -77,11 +78,11 @@ pub fn questions_are_answered()
     ensures { QuestionsAreAnswered }
 {}
 
-/// A card and a clock in C are saved and restored as `include/lapd.h` says. A save changes nothing but the octets of its image, and
-/// so much room as `lapd_image_octets` tells is enough for it. A restore begins one if none is there, or finds no memory, or no
-/// image; if it is not OK, nothing changes. It takes the image of each card that is there. The restored card then goes on as the
-/// saved one would, as one whose ports begin anew, and a clock is as it was. Each card and each clock in C may be saved: from its
-/// start or its restore on, after each call.
+/// A card and a clock in C are saved and restored as `include/lapd.h` says. A save changes nothing but the octets of its
+/// image, and so much room as `lapd_image_octets` tells is enough for it. A restore begins one if none is there, or finds
+/// no memory, or no image; if it is not OK, nothing changes. It takes the image of each card that is there. The restored
+/// card then goes on as the saved one would, as one whose ports begin anew, and a clock is as it was. Each card and each
+/// clock in C may be saved: from its start or its restore on, after each call.
 #[tactic(auto, using(crate::proofs::SavesServed::saves_are_served_by))]
 pub fn saves_are_served()
     ensures { SavesAreServed }

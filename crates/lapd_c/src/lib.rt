@@ -10,8 +10,9 @@
 //! - `lend`: how a call begins, with what its handle holds, or with the status that says what is wrong.
 //! - `card`: a card in C, how it begins and ends. `kept`: a card with its links that wait for room, which `refused` and, of a
 //!   line, `link_marks` mark. `card_slot`: where it lies.
-//! - `events`: what happens at a card of either kind. `octets`: one octet that comes and one that goes, with the frames that these
-//!   begin and end. `exchange`: octets taken and given in turn. `frames`: frames that come and go, and on which lines one waits.
+//! - `events`: what happens at a card of either kind. `octets`: one octet that comes and one that goes, with the frames
+//!   that these begin and end. `exchange`: octets taken and given in turn. `frames`: frames that come and go, and on which
+//!   lines one waits.
 //! - `questions`: what a card answers about itself, what was counted of a line and of a link, and how many contents more a link
 //!   takes. `links`: which links it has.
 //! - `saved`: a card that is saved, and one that is restored; `kept_image` and `waiting`, how what is kept comes into an image.

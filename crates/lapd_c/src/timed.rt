@@ -15,8 +15,8 @@ use crate::plain::{
 };
 use lapd_card::BareReport;
 
-/// The time is now a moment; and the timer that is due first, if one is, expires: the report tells which it was, of which line, and
-/// what its expiry led to.
+/// The time is now a moment; and the timer that is due first, if one is, expires: the report tells which it was, of which
+/// line, and what its expiry led to.
 #[unsafe(no_mangle)]
 pub extern "C" fn lapd_fall_due(handle: &mut CardHandle, now: u64, report: &mut PlainReport) -> u32
     requires { IsHandle handle.old }

@@ -308,8 +308,8 @@ impl<S: Shelf> FrameCard<S> {
     }
 
     /// How much room the link of a service with this TEI has for contents, and its V(A). Room is the places of its queue
-    /// that are left, and the slots that are free for all. Whoever was refused for want of room asks again once there is some. Each
-    /// contents that is acknowledged gives its place and its slot back, and moves V(A) on by one.
+    /// that are left, and the slots that are free for all. Whoever was refused for want of room asks again once there is
+    /// some. Each contents that is acknowledged gives its place and its slot back, and moves V(A) on by one.
     ///
     /// # Errors
     ///

@@ -56,7 +56,8 @@ impl<S: Shelf> FrameCard<S> {
         self.lines[line].own_timer()
     }
 
-    /// The TEI at a place of a line, in the table of the line's TEIs; none where the place is free, or the table has no such place.
+    /// The TEI at a place of a line, in the table of the line's TEIs; none where the place is free, or the table has no
+    /// such place.
     pub fn tei_at(&self, line: usize, place: usize) -> Option<u8>
         requires { line < line_count self.now }
         ensures is { (m : machine.Card) → FrameStands S.store self.now m → result ≡ tei_at place (line_at line m) }

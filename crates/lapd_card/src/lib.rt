@@ -31,8 +31,8 @@
 //!   either kind, over a shelf of raw memory.
 //! - `drive` with `sink` and `replies`: whole lists of events at a card of octets; `kept`: a sink that keeps the replies.
 //! - `start` with `fault`: how a card begins, and why it does not.
-//! - `saved`: the lines and counters of a card in an image, and its configuration; how long an image is at most. `saved_kinds`: a card
-//!   of either kind. `image_queries`: what the owner of a card asks before it saves it.
+//! - `saved`: the lines and counters of a card in an image, and its configuration; how long an image is at most.
+//!   `saved_kinds`: a card of either kind. `image_queries`: what the owner of a card asks before it saves it.
 //! - `stored`: how many octets a card of octets stores, and how many a card of either kind may.
 //!
 //! What the card does is defined below. A row of a link's tables (by state, in `specs/`) and its notes are in

@@ -106,8 +106,8 @@ impl<S: Shelf> FrameCard<S> {
     ///
     /// # Errors
     ///
-    /// [`RestoreFault::ShelfTooSmall`] as [`FrameCard::start`]; [`RestoreFault::BadImage`] if no lines that may be saved of such a
-    /// card are at the front; [`RestoreFault::OutOfMemory`] if memory is refused.
+    /// [`RestoreFault::ShelfTooSmall`] as [`FrameCard::start`]; [`RestoreFault::BadImage`] if no lines that may be saved of
+    /// such a card are at the front; [`RestoreFault::OutOfMemory`] if memory is refused.
     pub fn restore(
         alloc: Global,
         config: Config,

@@ -5,8 +5,8 @@
 //! started and stopped. `Moments` has a place for each timer that may run at a time, with the moment at which it falls due, and
 //! gives the timers back one after the other as their moments come. It reads no clock of its own:
 //! moments are numbers that its caller hands in, in milliseconds. Its caller starts and stops a timer at its place. Only
-//! if that was the first of its line does it look at the others of the line. A `Clock` is for a caller who knows no places: it looks
-//! for that of a timer among those of its line. It also knows how long timers run.
+//! if that was the first of its line does it look at the others of the line. A `Clock` is for a caller who knows no places:
+//! it looks for that of a timer among those of its line. It also knows how long timers run.
 //!
 //! - `clock`: `Clock`, the running timers of all lines. `clock::saved`: a clock in an image. `clock::restored`: a clock from one.
 //! - `moments`: `Moments`, the places of all lines. `moments::place`: one place. `moments::any_place`: which place of a line is
@@ -25,9 +25,9 @@
 //! moment, and which place is its first. That of `Moments` is taken by `Moments::idle`: the same, and one place more a line. If
 //! none is due, `due` looks at one moment, whatever the lines. Only if the timer that was first has been started anew or stopped,
 //! the first `due` after its moment looks at a moment of each line, and until then so does each `next`. `apply` goes
-//! over the places of its one line until it finds that of the timer. If the timer runs at none, it goes on to the first free one, and
-//! if it was the first of the line, once more over all. A timer that is started again keeps its place, and no other
-//! moves. If one is due, `due` also looks at a moment of each line, and goes over the places of its line.
+//! over the places of its one line until it finds that of the timer. If the timer runs at none, it goes on to the first
+//! free one, and if it was the first of the line, once more over all. A timer that is started again keeps its place, and no
+//! other moves. If one is due, `due` also looks at a moment of each line, and goes over the places of its line.
 //!
 //! # Only tested
 //!

@@ -144,7 +144,8 @@ impl LinkLayer {
     }
 
     /// The same where one may wait.
-    // It is compiled into its caller, too, so that `out` has no address; it is apart, so that octets are laid out only if one waits.
+    // It is compiled into its caller, too, so that `out` has no address; it is apart, so that octets are laid out only if
+    // one waits.
     #[inline(always)]
     fn take_waiting_message<O: Outlet>(&mut self, out: &mut O) -> Option<ShortList<Order>>
         requires free { IsFree (O.loading out.old) }

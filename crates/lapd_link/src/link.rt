@@ -68,8 +68,9 @@ impl Link {
     }
 
     /// The TEI (0 to 126) comes to the line, and the link is its from now on. The link has to be in state 4, and is as one that
-    /// begins, with a window of `k` (1 to its queue's capacity), `n200` repeats (0 to 10) and at most `n201` octets of information
-    /// (8 to 260, and no wider than the shelf). It reads the tables as the profile does; [`Link::with_terms`] says another reading.
+    /// begins, with a window of `k` (1 to its queue's capacity), `n200` repeats (0 to 10) and at most `n201` octets of
+    /// information (8 to 260, and no wider than the shelf). It reads the tables as the profile does; [`Link::with_terms`]
+    /// says another reading.
     pub fn open(&mut self, service: Service, tei: u8, k: u8, n200: u8, n201: u16)
         requires tei { tei ≤ 126 }
         requires k_low { 1 ≤ k }
@@ -94,8 +95,8 @@ impl Link {
         });
     }
 
-    /// The same with these parameters, which have to be in range (`range`), with the capacities of the start. That holds on the shelf
-    /// for which it stood, if that is at least as wide as N201 (`fresh`).
+    /// The same with these parameters, which have to be in range (`range`), with the capacities of the start. That holds on
+    /// the shelf for which it stood, if that is at least as wide as N201 (`fresh`).
     pub fn with_terms(&mut self, terms: Terms)
         requires range { IsInRange terms }
         requires queue { terms.queue ≡ (terms_of self.old).queue }

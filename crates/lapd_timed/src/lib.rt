@@ -1,8 +1,8 @@
 //! A card that keeps its own timers, or one whose timers are its owner's. What the first orders is carried out in places of
 //! their own, at the moment that it is told, and what is due falls due. The orders of the other are told to its owner.
 //!
-//! [`TimedCard`] is a card of either kind and of either sort, call by call. If it keeps its timers, its owner tells it the moment,
-//! and asks what falls due:
+//! [`TimedCard`] is a card of either kind and of either sort, call by call. If it keeps its timers, its owner tells it the
+//! moment, and asks what falls due:
 //!
 //! ```text
 //! let timers = CardTimers::start(alloc, card.lines(), terminals, Lengths::standard())?;

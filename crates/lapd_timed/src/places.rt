@@ -84,7 +84,8 @@ impl CardTimers {
     }
 }
 
-/// The place of a timer of a line, by the number of its link and of its kind; before those of all links are those of T201 and T202.
+/// The place of a timer of a line, by the number of its link and of its kind; before those of all links are those of T201
+/// and T202.
 pub(crate) fn slot(terminals: usize, line: usize, number: usize, kind: usize) -> usize
     requires terminals { terminals ≤ 8 }
     requires line { line < 64 }

@@ -33,13 +33,13 @@ use std::alloc::Global;
 const LONGEST: u64 = 3_600_000;
 
 impl CardTimers {
-    /// Starts the timers of a card as they were saved beside it: which run follows from the card, and so does what is noted of the
-    /// states of links.
+    /// Starts the timers of a card as they were saved beside it: which run follows from the card, and so does what is noted
+    /// of the states of links.
     ///
     /// # Errors
     ///
-    /// [`ImageFault::BadImage`] if no timers that may be saved beside it are at the front; [`ImageFault::OutOfMemory`] if memory is
-    /// refused.
+    /// [`ImageFault::BadImage`] if no timers that may be saved beside it are at the front; [`ImageFault::OutOfMemory`] if
+    /// memory is refused.
     pub(crate) fn restore<S: Shelf>(
         alloc: Global,
         card: &FrameCard<S>,
@@ -137,8 +137,8 @@ fn note_states<S: Shelf>(changes: &mut Changes, card: &FrameCard<S>, now: u64)
     }
 }
 
-/// Reads the moments of all timers that the lines of a card run, and starts each at its place. So far none runs. None may fall due
-/// after the latest moment that is told.
+/// Reads the moments of all timers that the lines of a card run, and starts each at its place. So far none runs. None may
+/// fall due after the latest moment that is told.
 pub(crate) fn restore_lines<S: Shelf>(
     moments: &mut Moments,
     terminals: usize,

@@ -100,8 +100,8 @@ impl TimedCard {
     }
 
     /// Writes its image into a room, from its front on, and answers how many octets it has. `waits` says of each line which links
-    /// wait for room, as [`Restored`](crate::Restored) has it; if one is marked whose TEI is not on the line, no restore takes the
-    /// image. What does not fit is left out; `image_octets` of `lapd_card` says how much room is enough.
+    /// wait for room, as [`Restored`](crate::Restored) has it; if one is marked whose TEI is not on the line, no restore
+    /// takes the image. What does not fit is left out; `image_octets` of `lapd_card` says how much room is enough.
     pub fn save(&self, waits: &[u16; MOST_LINES], out: &mut [u8]) -> usize
         ensures within { result ≤ length out.new }
         ensures puts { (s : Saved) → StandsFor self.now.card waits.now self.now.timers s → Puts (image_of s) 0 out.old result out.new }
@@ -202,8 +202,8 @@ impl TimedCard {
     }
 
     /// The moment, in milliseconds, at which the state of a link changed last; 0 if before a moment was told. There are states 4
-    /// to 8, and that its TEI is not on the line counts as one more. So its coming is a change. The answer is `None` where the TEI
-    /// is not on the line, or no timers are kept.
+    /// to 8, and that its TEI is not on the line counts as one more. So its coming is a change. The answer is `None` where
+    /// the TEI is not on the line, or no timers are kept.
     pub fn changed_at(&self, line: usize, service: Service, tei: u8) -> Option<u64>
         requires within { line < line_count self.now.card }
         ensures changed { (m : Machine) (marks : Marks) → AnyStands self.now.card m → ChangesStandIn self.now.timers (card_in m) marks

@@ -20,8 +20,9 @@ ghost use Rattle.laws_order.specs.teis.TwoTerminals.{TwoTerminalsDiffer};
 /// - since the TEI left, the terminal missed one. It was lost; it was given up as the network's line was down; or the TEI
 ///   left without one, as in the profile if T201 expires for the second time, or if there is no room for the message.
 ///
-/// What the network owes, and so which assignments it makes, an observer of its line knows (`Managing` of `laws_trace`). Of a TEI that management put on the terminal's line nothing is said (Q.921 clauses 5.3.2, 5.3.3.2 and
-/// 5.3.4, annex B, and profile).
+/// What the network owes, and so which assignments it makes, an observer of its line knows (`Managing` of `laws_trace`). Of
+/// a TEI that management put on the terminal's line nothing is said (Q.921 clauses 5.3.2, 5.3.3.2 and 5.3.4, annex B, and
+/// profile).
 pub fn assignments_hold()
     ensures { AssignmentsHold }
 {}

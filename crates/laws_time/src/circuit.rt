@@ -138,9 +138,10 @@ pub fn no_noise_makes_no_frame()
 ///
 /// The same holds of a link at rest (`since`). Without noise anything of the link was asked for except unit data and
 /// deactivation, and timers fell due. Then both ends are in state 7, neither side is busy, all that was sent is
-/// acknowledged, and no frame waits or is in transit. From there on only data is asked for, and no timer falls due. Let u requests
-/// be granted since. Then 2 u (2 L + D) octet times after the last each end was told all that the other was granted since,
-/// and nothing else. After (1 + 2 u) (2 L + D) it is so if L is the longest frame that went by then (`short_since`).
+/// acknowledged, and no frame waits or is in transit. From there on only data is asked for, and no timer falls due. Let u
+/// requests be granted since. Then 2 u (2 L + D) octet times after the last each end was told all that the other was
+/// granted since, and nothing else. After (1 + 2 u) (2 L + D) it is so if L is the longest frame that went by then
+/// (`short_since`).
 ///
 /// When no timer falls due is a matter of numbers, see [`a_call_comes_in_time`]. (Noise delays a call,
 /// `specs/circuit/WorkedInBeats`.)

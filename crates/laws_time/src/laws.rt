@@ -47,10 +47,10 @@ pub fn no_answer_is_awaited_longer()
 /// N200 takes its time. From a time on at which `Card::state` tells 4 or 7 of a link, no error G, H or I of it is told
 /// for (N200 + 1) T200 milliseconds, whatever comes on the line, and whatever layer 3 asks for (Q.921 clauses 5.5.1.3,
 /// 5.5.3.3 and 5.6.7). By annex B it is N200 T200 from state 7, or T200 if N200 is 0, as T200 may fall due at once
-/// there, and N200 enquiries go in all (`enquiries`). So N200 is not used up while noise lasts that began then and lasts for less. It may be used up
-/// after that, on a clean line, too. An answer may find no place to wait, and if N200 is 0, one expiry is enough. It
-/// holds at a line of a card of either kind, whatever happened before. The moment is that of the last step, up to which
-/// time has gone on.
+/// there, and N200 enquiries go in all (`enquiries`). So N200 is not used up while noise lasts that began then and lasts
+/// for less. It may be used up after that, on a clean line, too. An answer may find no place to wait, and if N200 is 0, one
+/// expiry is enough. It holds at a line of a card of either kind, whatever happened before. The moment is that of the last
+/// step, up to which time has gone on.
 pub fn n200_takes_its_time()
     ensures frames { N200TakesItsTime of_frames }
     ensures octets { N200TakesItsTime of_octets }

@@ -340,11 +340,11 @@ pub fn news_is_told()
 ///
 /// A frame for TEI management has `Unserved`, too. On the network's side a UI has none if its information is one of
 /// three messages. It asks for a TEI with Ai 127. Or it answers the check that runs. Or it asks for a check of a TEI on
-/// the line, and none runs; by annex B these are more and fewer, as [`teis_are_managed`] has it. At a terminal a UI command has none if its information is one of five messages. By the Ri of
-/// the request that is outstanding it assigns a TEI that may come to the line, or denies one. Or it assigns a TEI on the
-/// line, and no procedure runs. Or it checks or removes TEIs on the line. [`teis_are_managed`] has the TEIs on the line,
-/// the check and the procedure (Q.921 clauses 2.6, 2.7, 2.9, 2.10, 3.3.1 to 3.3.4, 5.3.1 to 5.3.6 and 5.8.5, annex B, and
-/// profile).
+/// the line, and none runs; by annex B these are more and fewer, as [`teis_are_managed`] has it. At a terminal a UI command
+/// has none if its information is one of five messages. By the Ri of the request that is outstanding it assigns a TEI that
+/// may come to the line, or denies one. Or it assigns a TEI on the line, and no procedure runs. Or it checks or removes
+/// TEIs on the line. [`teis_are_managed`] has the TEIs on the line, the check and the procedure (Q.921 clauses 2.6, 2.7,
+/// 2.9, 2.10, 3.3.1 to 3.3.4, 5.3.1 to 5.3.6 and 5.8.5, annex B, and profile).
 pub fn causes_are_told()
     ensures { Always CausesAreTold }
 {}

@@ -26,10 +26,10 @@ pub fn a_call_comes_through()
     ensures { CallsComeThrough }
 {}
 
-/// Cards deliver. Two cards, one of each side, with the same N201 and second SAPI, face each other by a link of the same service and
-/// TEI, however they came there. At each `Card::state` tells 7 of it, and neither side is busy. Nothing is in transit
-/// or waits on the line except I-frames of the link, and an acknowledgement that it owes. Each has received all that
-/// the other has sent, and owes the acknowledgement of what is not acknowledged.
+/// Cards deliver. Two cards, one of each side, with the same N201 and second SAPI, face each other by a link of the same
+/// service and TEI, however they came there. At each `Card::state` tells 7 of it, and neither side is busy. Nothing is in
+/// transit or waits on the line except I-frames of the link, and an acknowledgement that it owes. Each has received all
+/// that the other has sent, and owes the acknowledgement of what is not acknowledged.
 ///
 /// Then data is asked for at either end, as it is granted or refused, and turns come, in any order. Nothing is lost,
 /// and no timer expires. Layer 3 of each is told of the contents that were unsent at the other, and of those that the
@@ -97,12 +97,12 @@ pub fn what_is_lost_arrives_from_rest()
 {}
 
 /// N200 counts expiries of T200. Count at each end how often T200 expired since its link was last in state 7, or since
-/// the call began. The expiry that led out of state 7 is not counted, except by annex B (clause 5.6.7). Let T200 be long enough, and expire in states 5
-/// and 8 only while this count is below N200 (Q.921 clause 5.9.2). Then N200 is not used up, and no error is told as
-/// T200 expires. So the call is one of [`what_is_lost_arrives`] (`timely`) or, if UA may be lost and an end may be
-/// busy, of [`crate::a_call_with_losses_comes_through`] (`lossy`). While SABME is not answered, T200 may expire N200
-/// times; while an enquiry is not, N200 times after the expiry that led to state 8. By annex B that expiry is one of
-/// the N200. Each end has a reading of its own.
+/// the call began. The expiry that led out of state 7 is not counted, except by annex B (clause 5.6.7). Let T200 be long
+/// enough, and expire in states 5 and 8 only while this count is below N200 (Q.921 clause 5.9.2). Then N200 is not used up,
+/// and no error is told as T200 expires. So the call is one of [`what_is_lost_arrives`] (`timely`) or, if UA may be lost
+/// and an end may be busy, of [`crate::a_call_with_losses_comes_through`] (`lossy`). While SABME is not answered, T200 may
+/// expire N200 times; while an enquiry is not, N200 times after the expiry that led to state 8. By annex B that expiry is
+/// one of the N200. Each end has a reading of its own.
 pub fn expiries_are_counted()
     ensures timely { ExpiriesAreCounted }
     ensures lossy { LossyExpiriesAreCounted }

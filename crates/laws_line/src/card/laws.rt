@@ -4,15 +4,15 @@
 ghost use Rattle.laws_line.specs.card.Laws.{OneEvent, OthersAreLeft, CausesTold};
 
 /// In every moment one part of one line has one event, and all else is as it was. Some are an event of a link, which
-/// changes nothing else; the answer tells what the link tells. These are a frame for a link of a TEI on the line, also
-/// one that the grammar does not have or that is too long, the expiry of a timer of it, and a request of it that is
-/// granted. Others are an event of TEI management: a message of it, the expiry of T201, or at a terminal of T202, and a
-/// request of management that is granted. Then the links of a TEI that comes or leaves are as ones that begin, and the others stay. Noted is
-/// what TEI management notes, and what the links of a TEI that leaves tell as they end. Unit data whose request was
-/// granted waits, whole, after what waits. If the line is down, no unit data, no message of TEI management, no check that
-/// runs or is due and no procedure of a terminal are left, and all that is told is that T201 stops, or T202. A call for the next frame leaves its line, and answers, as the
-/// machine of the line does. Whatever else comes changes nothing, and nothing is told (clauses 2.2 to 2.7, 3.6.1,
-/// 5.2.2, 5.3, 5.8.5, annex B and the profile).
+/// changes nothing else; the answer tells what the link tells. These are a frame for a link of a TEI on the line, also one
+/// that the grammar does not have or that is too long, the expiry of a timer of it, and a request of it that is granted.
+/// Others are an event of TEI management: a message of it, the expiry of T201, or at a terminal of T202, and a request of
+/// management that is granted. Then the links of a TEI that comes or leaves are as ones that begin, and the others stay.
+/// Noted is what TEI management notes, and what the links of a TEI that leaves tell as they end. Unit data whose request
+/// was granted waits, whole, after what waits. If the line is down, no unit data, no message of TEI management, no check
+/// that runs or is due and no procedure of a terminal are left, and all that is told is that T201 stops, or T202. A call
+/// for the next frame leaves its line, and answers, as the machine of the line does. Whatever else comes changes nothing,
+/// and nothing is told (clauses 2.2 to 2.7, 3.6.1, 5.2.2, 5.3, 5.8.5, annex B and the profile).
 pub fn one_event()
     ensures { OneEvent }
 {}

@@ -7,8 +7,8 @@
 //! say. There is which timers a caller runs (`Timers`). What calls for the next frame of a line come to is in `Among`
 //! and `PromisesOfTakes`; `WaitingIsHeard` has words of the octets that they come to. The laws say of which cards and
 //! lists (`Laws`). There are worked values of the laws and of the machine, also some that break them (`Worked*`). Each
-//! law is the contract of a call that does nothing. `laws_promises` has what is promised of a list of events in one record, `Promises`. A law
-//! here names the fields that it proves, and their comments say it in words.
+//! law is the contract of a call that does nothing. `laws_promises` has what is promised of a list of events in one record,
+//! `Promises`. A law here names the fields that it proves, and their comments say it in words.
 //!
 //! - `laws`, `progress`: the laws.
 

@@ -61,9 +61,10 @@ pub fn lines_isolated()
 /// heard there that stands with its check, stuffed, between two flags, and no other. It is heard with the octet in which its
 /// second flag ends, so once, and an octet brings one event at most (`there`, `all`). Let a frame stand between flags in the
 /// octets of an idle line. They are heard as this frame and nothing else, or, by its length, as one that is too short or
-/// overlong. Octets in which a fault stands are heard as what is dropped for its cause, and nothing else. So a card of frames takes
-/// what a controller tells for what stood on its line. Whatever came before, what else stands between two flags is dropped, and
-/// told as too short, as without its check, or as ragged; and what seven contiguous 1s give up, as an abort.
+/// overlong. Octets in which a fault stands are heard as what is dropped for its cause, and nothing else. So a card of
+/// frames takes what a controller tells for what stood on its line. Whatever came before, what else stands between two
+/// flags is dropped, and told as too short, as without its check, or as ragged; and what seven contiguous 1s give up, as an
+/// abort.
 #[tactic(auto, using(crate::proofs::OfPorts::FramesHeard::frames_are_heard))]
 pub fn frames_are_heard()
     ensures { FramesAreHeard }

@@ -63,9 +63,9 @@ pub fn orders_follow_the_check()
     ensures expired { ExpiredT201Follows }
 {}
 
-/// If the line is down (Q.921 annex B, persistent deactivation), no message waits, and no check runs or is due. The TEIs and what is
-/// remembered of their assignments stay, and all that is told is that T201 stops, if it ran. A law about the definitions in
-/// `specs/`; the call does nothing.
+/// If the line is down (Q.921 annex B, persistent deactivation), no message waits, and no check runs or is due. The TEIs
+/// and what is remembered of their assignments stay, and all that is told is that T201 stops, if it ran. A law about the
+/// definitions in `specs/`; the call does nothing.
 #[tactic(auto, using(crate::proofs::OfNetwork::GivenUp::down_gives_up))]
 pub fn down_gives_up()
     ensures { DownGivesUp }

@@ -1,6 +1,6 @@
 -- Octets are read back out of a stuffed text.
-use Rattle.lapd_bits.proofs.Vocabulary.{◌≡◌, ℕ, suc, zero, ◌+◌, ◌*◌, ◌/◌, ◌%◌, ◌^◌, ◌<◌, ◌≤◌, min, ⊎_elim, cases_lt, Bool, true, false, nat_eq, bit_and, List, [], ◌∷◌, ◌++◌, length, drop, get_or, replicate, refl, ap, sym, ◌∙◌, subst, arith, append_assoc, drop-cons, drop_at, drop_all, shr-shr, and_mask, lt-ltb, le-ltb, div-one, bits, low_bits, length-low_bits, length-bits, length-drop}
-use Rattle.lapd_bits.proofs.Vocabulary.{length-append, length-take-le, take, take_all, take-set_at, unstuffed, unstuffed-counted, unstuffed_after, unstuffed_after-append, length-replicate}
+use Rattle.lapd_bits.proofs.Vocabulary.{◌≡◌, ℕ, suc, zero, ◌+◌, ◌*◌, ◌/◌, ◌%◌, ◌^◌, ◌<◌, ◌≤◌, min, ⊎_elim, cases_lt, Bool, true, false, nat_eq, bit_and, List, [], ◌∷◌, ◌++◌, length, drop, get_or, replicate, refl, ap, sym, ◌∙◌, arith, append_assoc, drop-cons, drop_at, shr-shr, and_mask, lt-ltb, le-ltb, div-one, bits, low_bits, length-low_bits, length-bits, length-drop}
+use Rattle.lapd_bits.proofs.Vocabulary.{length-append, length-take-le, take, take_all, take-set_at, unstuffed-counted, unstuffed_after, unstuffed_after-append, length-replicate}
 use Rattle.model_bits.proofs.StuffingCounted.{unstuffed_past_five}
 use mir.Val.{bool_byte}
 use Rattle.std.specs.Prelude.{set}
@@ -9,7 +9,7 @@ use Rattle.std.proofs.Math.Seq.{take-append_seam}
 use Rattle.model_bits.specs.Bits.{octets_of}
 use Rattle.model_bits.proofs.BitLemmas.{number_of-low_bits}
 use Rattle.lapd_bits.proofs.AtOnce.{ones_after-ones, unstuffed_after-ones}
-use Rattle.lapd_bits.specs.Reading.{bits_after, bits_from, left_to_read}
+use Rattle.lapd_bits.specs.Reading.{bits_after, left_to_read}
 use Rattle.lapd_bits.specs.declared.reading.Reading.{Reading}
 
 -- ---- the bits of a text, one after the other

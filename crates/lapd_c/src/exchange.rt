@@ -1,6 +1,6 @@
 //! Octets taken and given in turn.
 
-ghost use Rattle.std.specs.Prelude.{ℕ, ◌≡◌, ◌≢◌, ◌<◌, ◌*◌, true, false, length};
+ghost use Rattle.std.specs.Prelude.{◌≡◌, ◌≢◌, ◌<◌, ◌*◌, true, false, length};
 ghost use Rattle.std.specs.Option.{option_copied};
 ghost use Rattle.lapd_c.specs.{card_of, Exchanges, is_exchange, IsCallOf, IsHandle, OctetsWithLine, of_octets};
 ghost use Rattle.lapd_c.specs.{octet_of, step_event, tells_nothing, told_at, told_beside, with_step};

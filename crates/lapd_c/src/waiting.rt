@@ -1,12 +1,12 @@
 //! Which links wait for room, as an image has them: by the numbers of links, where a card here has them by their TEIs.
 
-ghost use Rattle.std.specs.Prelude.{◌≡◌, ◌≤◌, ◌<◌, length, map, take, IfOk};
+ghost use Rattle.std.specs.Prelude.{◌≡◌, ◌<◌, length, map, take};
 ghost use Rattle.lapd_card.specs.FrameCard.{line_count};
 ghost use Rattle.lapd_card.specs.Kinds.{FrameCardStands};
 ghost use Rattle.model_bits.specs.Bits.{number_of};
 ghost use Rattle.model_card.specs.Card as machine;
 ghost use Rattle.model_card.specs.Card.{line_at};
-ghost use Rattle.lapd_c.specs.{AreMarked, marks_of};
+ghost use Rattle.lapd_c.specs.{AreMarked};
 ghost use Rattle.lapd_c.specs.Waiting.{card_waits, is_waiting, line_waits, waits_by, AreAllMarked};
 
 use crate::link_marks::LinkMarks;

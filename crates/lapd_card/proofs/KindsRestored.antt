@@ -8,7 +8,7 @@ use Rattle.lapd_card.specs.FrameCard as frames
 use Rattle.lapd_card.specs.Image.{AnyRestores, Restores}
 use Rattle.lapd_card.specs.Kinds.{shelf_of}
 use Rattle.lapd_card.specs.Stands.{HasPast}
-use Rattle.lapd_card.specs.declared.kinds.AnyCard.TheVariants.{Octets, Frames}
+use Rattle.lapd_card.specs.declared.kinds.AnyCard.TheVariants.{Octets}
 use Rattle.lapd_card.proofs.OctetsBegin.{begun_stands}
 
 pub octets_restored : {kind : CardKind} {c : Config} {front rest : List ℕ} {frames : frames.Held Store} {ports : List Port} → kind ≡ kinds.Octets → frames.config ≡ c → Restores shelf_of c front rest frames
@@ -16,10 +16,6 @@ pub octets_restored : {kind : CardKind} {c : Config} {front rest : List ℕ} {fr
 octets_restored {kind} {c} {front} {rest} {frames} {ports} is same (l, read, stands) there =
     subst (λ kind. AnyRestores kind c front rest (Octets (record { frames = frames; ports = ports }))) (sym is)
     (l, read, record { stands = begun_stands shelf_of c l.card same read.saved.config stands.stands read.saved.begins there; counted = stands.counted })
-
-pub frames_restored : {kind : CardKind} {c : Config} {front rest : List ℕ} {frames : frames.Held Store} → kind ≡ kinds.Frames → Restores shelf_of c front rest frames → AnyRestores kind c front rest (Frames frames)
-frames_restored {kind} {c} {front} {rest} {frames} is (l, read, stands) =
-    subst (λ kind. AnyRestores kind c front rest (Frames frames)) (sym is) (l, read, record { stands = stands.stands; counted = stands.counted })
 
 pub octets_past : {c : Config} {front rest : List ℕ} {frames : frames.Held Store} {ports : List Port} → frames.config ≡ c → Restores shelf_of c front rest frames → PortsStand c.n201 ports (replicate c.lines fresh_port)
     → HasPast shelf_of (record { frames = frames; ports = ports })

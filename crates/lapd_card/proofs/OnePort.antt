@@ -1,12 +1,11 @@
 -- One port of a card of octets, taken out of its ports and put back; and what leads such a card on.
-use Rattle.lapd_card.proofs.Vocabulary.{◌≡◌, ◌≢◌, ℕ, ◌<◌, ◌==◌, Bool, true, false, List, [], ◌∷◌, ◌++◌, length, refl, sym, ap, subst, ◌∙◌, arith, true≢false, eqb-true, eq-eqb, get_or, set, length-set, get_or-set_same, get_or-set_other, set-set, slice_get, slice_get-get_or, Some, IfSome, All, All-push, Config, Store, BareReport, Card, Port, PortStands, latest_frame, told_if, OctetCard, port_at}
+use Rattle.lapd_card.proofs.Vocabulary.{◌≡◌, ◌≢◌, ℕ, ◌<◌, ◌==◌, Bool, true, false, List, length, refl, sym, ap, subst, ◌∙◌, arith, true≢false, eqb-true, eq-eqb, get_or, set, length-set, get_or-set_same, get_or-set_other, set-set, slice_get, slice_get-get_or, Some, IfSome, Config, Store, BareReport, Card, Port, PortStands, latest_frame, told_if, OctetCard, port_at}
 use Rattle.lapd_card.proofs.Vocabulary.{PortsStand, told_at, told_of, told_if_at, told_beside, delivered_in, option_map_or, nothing, Option, None}
 use Rattle.lapd_link_steps.specs.Reports.{has_contents}
-use Rattle.model_card.specs.ports.Card.{after, said, fresh}
+use Rattle.model_card.specs.ports.Card.{after, said}
 use Rattle.model_card.specs.ports.Event.{Event, at}
 use Rattle.model_card.specs.ports.Port as port
 use Rattle.model_card.specs.ports.Port.{fresh_port}
-unfoldable use Rattle.model_card.specs.ports.Run.{after_all}
 use Rattle.model_card.proofs.OfPorts.Reaching.{reached_sound}
 pub use Rattle.model_card.proofs.OfPorts.Reaching.{reached_after as reached-after}
 use Rattle.lapd_card.specs.Called.{OctetCalled}

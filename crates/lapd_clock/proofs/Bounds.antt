@@ -1,6 +1,6 @@
 -- What is kept of each line, when a place changes, and what a look finds.
 use Rattle.lapd_clock.proofs.Vocabulary.{◌≡◌, ℕ, zero, suc, [], ◌∷◌, true, ◌+◌, ◌-◌, ◌*◌, ◌/◌, ◌<◌, ◌≤◌, false, nat_lt, List, length, length-set, get_or, set, replicate, slice_index, None, Some, refl, sym, ap, ◌∙◌, subst, arith, nat_tests, recursion_from_All, IsFirstBest, cases_lt, cases_eq, inl, inr}
-use Rattle.lapd_clock.proofs.Vocabulary.{get_or-map, get_or_default, Expiry, is_before, never}
+use Rattle.lapd_clock.proofs.Vocabulary.{get_or-map, Expiry, is_before, never}
 use Rattle.std.specs.Prelude.{Option, IfSome, IfNone}
 use Rattle.std.proofs.lemmas.List.{get_or-set_other, length-replicate}
 use Rattle.std.proofs.lemmas.Grind.{get_or-set_at}
@@ -10,7 +10,7 @@ use Rattle.std.proofs.lemmas.Nat.{div-mul-add}
 use Rattle.std.proofs.Math.Nat.{div-lt_iff_lt-mul, div-mul-le_self, lt-div-mul-add, mul-le-mul_right, suc-mul}
 use Rattle.lapd_clock.specs.Timer.{T201}
 use Rattle.lapd_clock.proofs.First.{before_itself, no_earlier}
-use Rattle.lapd_clock.specs.Bounds.{IsLead, AreBounded, AreNoEarlier, IsFoundFirst, IsFoundAt, IsFirstOfLine}
+use Rattle.lapd_clock.specs.Bounds.{IsLead, AreBounded, IsFoundFirst, IsFoundAt, IsFirstOfLine}
 use Rattle.lapd_clock.specs.OwnPlaces.{expiry_of, expiries_of, place_before, nothing, AreNotBefore, AreOfLines, AreIdleSoFar, AreFirstPlaces, IsFirstUntil}
 use Rattle.lapd_clock.specs.declared.moments.lead.Lead.{Lead}
 use Rattle.lapd_clock.specs.declared.moments.place.Place.{Place}
@@ -103,9 +103,6 @@ changed each line place result bounds leads lead ps p h within line_is own its =
 pub own-line : (each : ℕ) (bounds : List ℕ) (leads : List Lead) (ps : List Place) (place : ℕ) (u : Place) → AreBounded each bounds leads ps → place < length ps → u ≡ get_or ps place u → u.line ≡ place / each
 own-line each bounds leads ps place u h within at_it = ap (λ (p : Place). p.line) at_it ∙ h.of_line place u within
 
-pub its-line-there : (each : ℕ) (bounds : List ℕ) (leads : List Lead) (ps : List Place) (place : ℕ) (u : Place) → AreBounded each bounds leads ps → place < length ps → u ≡ get_or ps place u → u.line < length bounds
-its-line-there each bounds leads ps place u h within at_it = subst (λ n. n < length bounds) (sym (own-line each bounds leads ps place u h within at_it)) (line-there each place bounds leads ps h within)
-
 -- places at which no timer runs
 resting : (ps : List Place) (i : ℕ) (d : Place) → i < length ps → AreIdleSoFar ps → (get_or ps i d).moment ≡ never
 resting [] i d within rest = absurd (omega (arith, within))
@@ -187,21 +184,6 @@ least-before m each line bounds leads ps h least is =
 pub later-than : (bounds now : List ℕ) (line m : ℕ) → now ≡ bounds → IsFirstBest nat_lt now (length now) line → m ≡ slice_index now line → (k : ℕ) → k < line → k < length bounds → m < slice_index bounds k
 later-than bounds now line m same least is k before there =
     subst (λ xs. m < slice_index xs k) same (subst (λ n. n < slice_index now k) (sym is) (is_less _ _ (least.2 k 0 before)))
-
--- one that is no later than all, and earlier than those before it, is the least
-pub is-least : (bounds : List ℕ) (line m : ℕ) → line < length bounds → m ≡ slice_index bounds line → AreNoEarlier m line bounds → IsFirstBest nat_lt bounds (length bounds) line
-is-least bounds line m there is kept = (
-  there,
-  λ k d within. not-before (get_or bounds k d) (get_or bounds line d) (omega (arith, is, kept.none_before k within, get_or_default bounds k d 0 within, get_or_default bounds line d 0 there)),
-  λ k d before. is-before (get_or bounds line d) (get_or bounds k d)
-      (omega (arith, is, kept.later k before (omega (arith, before, there)), get_or_default bounds k d 0 (omega (arith, before, there)), get_or_default bounds line d 0 there)),
-)
-  where
-    not-before : (a b : ℕ) → b ≤ a → nat_lt a b ≡ false
-    not-before a b h = grind (arith, nat_lt, nat_tests)
-
-    is-before : (a b : ℕ) → a < b → nat_lt a b ≡ true
-    is-before a b h = grind (arith, nat_lt, nat_tests)
 
 pub place-within : (each line place : ℕ) (bounds : List ℕ) (leads : List Lead) (ps : List Place) → AreBounded each bounds leads ps → line < length bounds → IsFirstOfLine place each line ps → place < length ps
 place-within each line place bounds leads ps h there first = omega (arith, first.high, line-within each line bounds leads ps h there)

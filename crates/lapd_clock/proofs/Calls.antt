@@ -7,15 +7,6 @@ use Rattle.lapd_clock.proofs.First.{before_itself, none_earlier}
 use Rattle.lapd_clock.proofs.Ordered.{by_place}
 use Rattle.lapd_clock.proofs.Standing.{due_now, parted, All-set, All-timers}
 
-not_yet : (moment now : ℕ) → now < moment → nat_le moment now ≡ false
-not_yet moment now h = grind (arith, nat_tests)
-
-by_now : (moment now : ℕ) → moment ≤ now → nat_le moment now ≡ true
-by_now moment now h = grind (arith, nat_tests)
-
-pub one_taken : (e : Expiry) (es : List Expiry) (now : ℕ) → e.moment ≤ now → after_first_due (e ∷ es) now ≡ es
-one_taken e es now h = ap (λ b. cond b es (e ∷ es)) (by_now e.moment now h)
-
 -- where the first falls due later, all do
 pub all_later : (e : Expiry) (es : List Expiry) (now : ℕ) → IsInOrder is_before (e ∷ es) → now < e.moment → All (λ held. now < held.moment) (e ∷ es)
 all_later e es now h k i d within =

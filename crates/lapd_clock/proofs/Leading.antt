@@ -10,16 +10,6 @@ use Rattle.lapd_clock.specs.declared.moments.place.Place.{Place}
 
 -- ---- which place is the earliest, one after the other
 
-pub earliest-one : (ps : List Place) → 1 ≤ length ps → IsEarliest 1 0 never ps
-earliest-one ps some = record {
-  within = omega arith;
-  least = λ i d e there. subst (λ n. (get_or ps 0 e).moment ≤ (get_or ps n d).moment) (zero-is there) (omega (arith, ap (λ (q : Place). q.moment) (get_or_default ps 0 e d (omega (arith, some)))));
-  others_late = λ i d there apart. absurd (apart (sym (zero-is there)));
-}
-  where
-    zero-is : {i : ℕ} → i < 1 → 0 ≡ i
-    zero-is there = omega (arith, there)
-
 pub record IsTakenIn (ps : List Place) (n f l o : ℕ) : Type 0 where
   pub so_far : IsEarliest (n + 1) f o ps
   pub least : (d : Place) → (get_or ps f d).moment ≡ l

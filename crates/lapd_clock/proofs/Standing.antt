@@ -175,19 +175,6 @@ due_now place now es first due =
       after = sym (ap (λ xs. after_first_due xs now) first.leads ∙ ap (λ b. cond b rest (e ∷ rest)) test);
     }
 
-pub due_later : (place now : ℕ) (es : List Expiry) → IsFirst place es → now < (at place es).moment → NoneDue (timers_in es) now
-due_later place now es first later =
-    let test : nat_le (at place es).moment now ≡ false = grind (arith, nat_tests) in
-    let e = at place es in
-    let rest = timers_in (without_timer place es) in
-    record {
-      none = ap (λ xs. first_due xs now) first.leads ∙ ap (λ b. cond b (Some (e.line, e.timer)) None) test;
-      same = ap (λ xs. after_first_due xs now) first.leads ∙ ap (λ b. cond b rest (e ∷ rest)) test ∙ sym first.leads;
-    }
-
-pub nothing_due : (es : List Expiry) (now : ℕ) → timers_in es ≡ [] → NoneDue (timers_in es) now
-nothing_due es now none = record { none = ap (λ xs. first_due xs now) none; same = ap (λ xs. after_first_due xs now) none ∙ sym none }
-
 -- what is answered, and left, where the first is taken out
 pub due_is : (ps : List Place) (es : List Expiry) (b now : ℕ) (u : Place) → expiries_of ps ≡ es → IsFirstUntil now b es → u ≡ get_or ps b u → Some (u.line, u.timer) ≡ first_due (timers_in es) now
 due_is ps es b now u is first at_it =

@@ -6,7 +6,7 @@ ghost use Rattle.lapd_count.specs.declared.counter.Way.TheVariants.{Begun};
 ghost use Rattle.model_bits.specs.Heard.{heard_of};
 ghost use Rattle.lapd_count.specs.Counters.{value_in, with_more, with_all, none_counted};
 ghost use Rattle.lapd_count.specs.Messages.{has_message};
-ghost use Rattle.lapd_count.specs.Shown.{frame_shown, is_poll, head_shown, heard_shown, octets_shown, begun_shown, message_shown, type_shown, counter_of, note_shown, told_shown, drop_shown, lost_shown};
+ghost use Rattle.lapd_count.specs.Shown.{frame_shown, is_poll, head_shown, heard_shown, octets_shown, begun_shown, type_shown, counter_of, note_shown, told_shown, drop_shown, lost_shown};
 
 use crate::counter::{Counter, Way};
 use crate::kinds::Kind;

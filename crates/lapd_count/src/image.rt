@@ -1,6 +1,6 @@
 //! The counters of a line in an image of its card.
 
-ghost use Rattle.std.specs.Prelude.{◌≡◌, ◌≤◌, length, flat_map, All, IfOk, OnErr};
+ghost use Rattle.std.specs.Prelude.{◌≤◌, length, flat_map, All, IfOk, OnErr};
 ghost use Rattle.lapd_count.specs.Counters.{most};
 ghost use Rattle.lapd_count.specs.Image.{counters, IsCounted};
 ghost use Rattle.lapd_image.specs.Numbers.{number};

@@ -1,6 +1,6 @@
 -- The octets that a line holds: their sums, and that there are few.
-use Rattle.lapd_line.proofs.Vocabulary.{◌≡◌, ℕ, ◌+◌, ◌*◌, ◌/◌, ◌<◌, ◌≤◌, Bool, List, [], ◌∷◌, length, reverse, nat_lt, cond, Option, Some, refl, ap, zero, suc, ◌∙◌, arith, ltb-false, All-head, All-tail, sum_by-cons, same_Some, All, sum_by, range_with_len, option_map_or, unwrap_or, bits, octets_held, kept_count, open_gap, unstuffed, room_for, Network, Owned, Store, Link, Fits, terms_of}
-use Rattle.lapd_line.proofs.Vocabulary.{Terms, frame_of, held, IsWaitingFrame, Config, Line, link_count, service_at, terms, IsSoundAt, held_by_link, LinkLayer, LayerStands, HasTerms, LinksStand, machine_at}
+use Rattle.lapd_line.proofs.Vocabulary.{◌≡◌, ℕ, ◌+◌, ◌*◌, ◌/◌, ◌<◌, ◌≤◌, Bool, List, [], ◌∷◌, length, reverse, nat_lt, cond, Option, Some, ap, zero, suc, ◌∙◌, arith, ltb-false, All-head, All-tail, sum_by-cons, same_Some, All, sum_by, range_with_len, option_map_or, unwrap_or, bits, octets_held, kept_count, open_gap, unstuffed, room_for, Network, Owned, Store, Link, Fits, terms_of}
+use Rattle.lapd_line.proofs.Vocabulary.{Terms, frame_of, held, IsWaitingFrame, Config, Line, link_count, service_at, terms, IsSoundAt, held_by_link, LinkLayer, LayerStands, HasTerms, machine_at}
 use Rattle.lapd_frame.specs.Grammar.{spelling}
 use Rattle.model_teis.specs.network.Machine as tei
 use Rattle.model_teis.specs.terminal.Machine as terminals

@@ -2,7 +2,7 @@
 use Rattle.lapd_line.proofs.Vocabulary.{management_of, places_of, ◌≡◌, ℕ, ◌+◌, ◌||◌, Bool, true, false, not, ◌≤◌, nat_lt, List, [], ◌∷◌, length, Option, Some, None, refl, sym, ap, subst, ◌∙◌, cond, arith, option_map_or, ltb-false, none-some, prefix_len, list_any, Refusal, BadTei, NoLink, WrongState, Service, serves, Terms, Places, is_on, place_of, IsAt, is_on-at, place_of-is, Config, Line}
 use Rattle.lapd_line.proofs.Vocabulary.{has_tei, link_of}
 use Rattle.lapd_line.proofs.Vocabulary.{link_in}
-use Rattle.lapd_line.proofs.Vocabulary.{place_in, terms, link_number, with_link, refusal, Establish, Release, Data, SetBusy, ClearBusy, Assign, Remove, Check, Owned, Store, Link, told_with, at_link, of_aim, told_of_link, at_requested, Marks, LinkLayer, BareReport, LayerStands, Standing, Serves, Sets, TellsOf, HasTerms, Refuses, machine_at, told_in, link_refusal, management_refusal, Deactivate}
+use Rattle.lapd_line.proofs.Vocabulary.{place_in, terms, link_number, with_link, refusal, Establish, Release, Data, SetBusy, ClearBusy, Assign, Remove, Check, Owned, Store, Link, told_with, at_link, of_aim, told_of_link, at_requested, Marks, LinkLayer, BareReport, LayerStands, Standing, Serves, Sets, HasTerms, Refuses, machine_at, told_in, link_refusal, management_refusal, Deactivate}
 use Rattle.lapd_line.proofs.Vocabulary.{AskTei, Disown, Managing, Own, Request, VerifyTei, has_management, is_network, is_terminal, is_terminals, own_of, terminal_with}
 use Rattle.model_link.specs.Events as link
 use Rattle.model_link.specs.Link as machine
@@ -110,14 +110,6 @@ module _ (c : Config) (full : Bool) (l : Line) where
 module _ (e : LinkLayer) (s : Store) (others : List Owned) (m : Line) (st : LayerStands e s others m) (asked : TeiRequest) (tei : ℕ) where
   its_rows : refusal e.config false (request_asked asked tei) m ≡ management_refusal e.config asked tei e.teis
   its_rows = all_rows e.config false m asked tei e.teis st.kind st.management st.own
-
-  pub wrong_side : may_ask e.config asked ≡ false → refusal e.config false (request_asked asked tei) m ≡ Some WrongSide
-  wrong_side is = its_rows ∙ ap (λ b. cond (not b) (Some WrongSide) (cond (is_bad asked tei) (Some BadTei) (refusal_at asked tei e.teis))) is
-
-  pub bad_one : may_ask e.config asked ≡ true → is_bad asked tei ≡ true → refusal e.config false (request_asked asked tei) m ≡ Some BadTei
-  bad_one may bad =
-      its_rows ∙ ap (λ b. cond (not b) (Some WrongSide) (cond (is_bad asked tei) (Some BadTei) (refusal_at asked tei e.teis))) may
-      ∙ ap (λ b. cond b (Some BadTei) (refusal_at asked tei e.teis)) bad
 
   pub by_management : {why : Option Refusal} → may_ask e.config asked ≡ true → is_bad asked tei ≡ false → refusal_at asked tei e.teis ≡ why → refusal e.config false (request_asked asked tei) m ≡ why
   by_management may bad is =

@@ -1,5 +1,5 @@
 -- What a call on the links does to the entities of a line.
-use Rattle.lapd_line.proofs.Vocabulary.{management_of, places_of, ◌≡◌, ℕ, ◌<◌, ◌≤◌, List, ◌++◌, length, slice_get, Option, Some, refl, sym, ap, subst, ◌∙◌, arith, append_assoc, get_or, None, Owned, Holds, Store, SameLimits, Service, Link, told_with, IsAt, place_of, at-within, place_of-is, Line, link_number, link_count, service_at, place_at, tei_at, terms, at_link, link_in, place_in}
+use Rattle.lapd_line.proofs.Vocabulary.{management_of, places_of, ◌≡◌, ℕ, ◌<◌, ◌≤◌, List, ◌++◌, length, slice_get, Some, refl, sym, ap, subst, ◌∙◌, arith, append_assoc, get_or, None, Owned, Holds, Store, SameLimits, Service, Link, told_with, IsAt, place_of, at-within, place_of-is, Line, link_number, link_count, service_at, place_at, tei_at, terms, at_link, link_in, place_in}
 use Rattle.lapd_line.proofs.Vocabulary.{told_of_link, IsSound}
 use Rattle.lapd_line.proofs.Vocabulary.{place_at-number, service_at-number, number_within, aim_sound, ranges_of, LinkLayer, BareReport, told_in, unit_pairs, UnitRing, AreFor, Marks, Sets, AreAwake, TellsOf, Bool, LinksStand, HasTerms, links_pairs, terms_in, machine_at, LinkFits, LayerStands, Standing, Serves, always, Config, Managing, is_terminal, is_terminals, own_of, All, zip}
 use Rattle.std.specs.Option.{option_map}

@@ -1,5 +1,5 @@
 -- A message of TEI management is taken, or none waits.
-use Rattle.lapd_line.proofs.Vocabulary.{◌≡◌, ℕ, List, [], ◌∷◌, drop, slice_get, Option, Some, None, IfSome, option_or, option_map, refl, sym, ap, subst, ◌∙◌, arith, none-some, Owned, Store, Side, Config, Line, Taken, message_taken, unit_taken, first_taken, round, IsSound, TakesSoundly, taken_sound, LinkLayer, LayerStands, Loading, Loads, Took, Takes, room_in, reference_in, Managing, is_terminals}
+use Rattle.lapd_line.proofs.Vocabulary.{◌≡◌, ℕ, List, [], ◌∷◌, drop, slice_get, Option, Some, None, IfSome, option_or, option_map, refl, sym, ap, subst, ◌∙◌, none-some, Owned, Store, Side, Line, message_taken, unit_taken, first_taken, round, IsSound, TakesSoundly, taken_sound, LinkLayer, LayerStands, Loading, Loads, Took, Takes, room_in, reference_in, Managing, is_terminals}
 use Rattle.lapd_line.proofs.Vocabulary.{management_of, places_of, offered_by, own_of, is_some, false, false≢true}
 use Rattle.lapd_line.specs.Managing.{Gives, without_message}
 use Rattle.lapd_line.specs.declared.managing.Managing.TheVariants as kind

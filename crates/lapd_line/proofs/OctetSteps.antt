@@ -1,5 +1,5 @@
 -- What an event does to a line and its port.
-use Rattle.lapd_line.proofs.Vocabulary.{arith, ◌≡◌, ℕ, ◌<◌, Bool, true, false, List, [], ◌∷◌, ◌++◌, length, Option, Some, None, option_map, refl, sym, ap, ◌∙◌, subst, cond, lt-ltb, option_map_or, IsSome, Owned, Store, SameLimits, ShortList, Order, Timer, Config, Counters, hears, next, LineTold, counted, drop_costs_nothing, may_send, FrameLine, Leads, LeadsIfHeard}
+use Rattle.lapd_line.proofs.Vocabulary.{arith, ◌≡◌, ℕ, ◌<◌, Bool, true, false, List, [], ◌∷◌, ◌++◌, length, Option, Some, None, option_map, refl, sym, ap, ◌∙◌, subst, cond, lt-ltb, option_map_or, IsSome, Owned, Store, SameLimits, ShortList, Order, Config, Counters, hears, next, LineTold, counted, drop_costs_nothing, may_send, FrameLine, Leads, LeadsIfHeard}
 use Rattle.lapd_line.proofs.Vocabulary.{config_of, orders_taken, IsLoaded, IsSaid, PortStands, Pulls, with_frame, OctetsLead, OctetsStand, octets_config, gained, is_due, frame_begun, pull, pulled_of, LineStands, Port, Pulled}
 use Rattle.model_bits.specs.Stream as stream
 use Rattle.model_line.specs.Event as line

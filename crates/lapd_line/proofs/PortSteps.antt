@@ -2,14 +2,14 @@
 use Rattle.lapd_line.proofs.Vocabulary.{first_type, arith, ◌≡◌, ℕ, ◌≤◌, Bool, false, List, [], ◌∷◌, ◌++◌, length, length-append, take, take-append_seam, slice_get, Option, Some, None, is_some, option_map, option_to_list, fold, fold-append, ◌⊎◌, refl, sym, ap, ◌∙◌, subst, append_assoc, le-ltb, same_Some, option_map_or, unwrap_or, bits, low_bits, number_of, Framing, runs_low, refilled}
 use Rattle.lapd_line.proofs.Vocabulary.{with_idle, Item, frame, line_text, bits-push}
 use Rattle.lapd_line.proofs.Vocabulary.{heard_in}
-use Rattle.lapd_line.proofs.Vocabulary.{Head, head_shown, listed, ShortList, Order, Owned, Store, next, answer_shown, answer, without_octets, Cause, in_bits, Loading, TakesNext, FrameLine, Management, type_of, config_of, orders_taken, IsLoaded, IsSaid, PortStands, or_heard, or_latest, with_frame, left_is, one_item, text_of, Port, Ended, IsTextOf, LineStands, Answer, NextFrame, given_in}
+use Rattle.lapd_line.proofs.Vocabulary.{Head, head_shown, listed, ShortList, Order, Owned, Store, next, answer_shown, answer, without_octets, Cause, in_bits, Loading, TakesNext, FrameLine, config_of, orders_taken, IsLoaded, IsSaid, PortStands, or_heard, or_latest, with_frame, left_is, one_item, text_of, Port, Ended, IsTextOf, LineStands, Answer, NextFrame}
 use Rattle.lapd_bits.specs.declared.ended.Ended.TheVariants as ended
 use Rattle.model_bits.specs.Framer as framer
 use Rattle.model_bits.specs.Stream as stream
 use Rattle.model_line.specs.Line as lines
 use Rattle.model_card.specs.ports.FrameHeard.{before_latest, ended_by_latest}
 use Rattle.model_card.specs.ports.Port as machine
-use Rattle.model_card.specs.ports.Port.{gained, is_due, next_octet, with_item, frame_begun, orders_with, pull, pulled}
+use Rattle.model_card.specs.ports.Port.{gained, is_due, next_octet, with_item, frame_begun, pull, pulled}
 use Rattle.lapd_line.proofs.MessageSteps.{head_and_message, type_counted}
 use Rattle.lapd_line.proofs.NextSteps.{gave_none, gave_one, given_is}
 

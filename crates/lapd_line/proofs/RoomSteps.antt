@@ -1,7 +1,7 @@
 -- The room of a link of a line.
-use Rattle.lapd_line.proofs.Vocabulary.{places_of, ◌≡◌, ℕ, ◌<◌, ◌≤◌, Bool, true, false, not, nat_lt, List, length, Option, Some, None, Result, Err, sym, ap, subst, ◌∙◌, cond, option_map_or, ok_or, Refusal, BadTei, NoLink, Service, Owned, Store, is_on, place_of, is_on-at, place_of-is, Room, Terms, room_of, Config, Line, has_tei, link_in, link_number, link_of, terms, unless, LinkLayer}
+use Rattle.lapd_line.proofs.Vocabulary.{places_of, ◌≡◌, ℕ, ◌<◌, ◌≤◌, Bool, true, false, not, nat_lt, List, length, Some, None, Result, Err, sym, ap, subst, ◌∙◌, cond, option_map_or, Refusal, BadTei, NoLink, Service, Owned, Store, is_on, place_of, is_on-at, place_of-is, Room, room_of, Line, has_tei, link_in, link_number, link_of, terms, unless, LinkLayer}
 use Rattle.lapd_line.proofs.Vocabulary.{LayerStands, HasTerms}
-use Rattle.lapd_line.proofs.Vocabulary.{LinksStand, machine_at}
+use Rattle.lapd_line.proofs.Vocabulary.{machine_at}
 use Rattle.model_link.specs.Link as machine
 use Rattle.model_line.specs.Room.{room_in}
 use Rattle.lapd_line.proofs.LayerRequests.{off_line}

@@ -1,5 +1,5 @@
 -- Which timers run.
-use Rattle.lapd_line.proofs.Vocabulary.{◌≡◌, ℕ, ◌<◌, List, [], ◌∷◌, ◌++◌, Option, Some, None, IfSome, is_some, length, refl, sym, ap, ◌∙◌, arith, option_to_list, Owned, Store, Config, Line, Own, Managing, Management, Terms, IsSound, LinkLayer, LayerStands, LinksStand, HasTerms, machine_at, management_of, own_of, link_at, link_count, place_at, service_at, tei_at, terms, cond}
+use Rattle.lapd_line.proofs.Vocabulary.{◌≡◌, ℕ, ◌<◌, List, [], ◌∷◌, ◌++◌, Option, Some, None, IfSome, is_some, refl, sym, ap, ◌∙◌, arith, option_to_list, Owned, Store, Config, Line, Own, Managing, Management, IsSound, LinkLayer, LayerStands, management_of, own_of, link_at, link_count, place_at, service_at, tei_at, terms, cond}
 use Rattle.std.proofs.Common.{append-nil}
 use Rattle.lapd_frame.specs.declared.timers.Timer.{Timer}
 use Rattle.lapd_frame.specs.declared.timers.Timer.TheVariants.{T201, T202}

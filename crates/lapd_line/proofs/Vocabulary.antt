@@ -16,7 +16,7 @@ pub use Rattle.std.proofs.lemmas.Nat.Bits.{bit_at-trailing_zeros, bit_at-zero, b
 pub use Rattle.std.proofs.lemmas.Option.{none-some, same_Some, slice_get-get_or, slice_get-map, slice_get_cases, slice_get_within}
 pub use Rattle.std.specs.Int.{bit_at, trailing_zeros}
 pub use Rattle.std.specs.List.{All, list_any, prefix_len, range_with_len, sum_by, zip}
-pub use Rattle.std.specs.Option.{ok_or, option_map_or, option_or, unwrap_or}
+pub use Rattle.std.specs.Option.{option_map_or, option_or, unwrap_or}
 pub use Rattle.std.specs.Prelude.{MatchOption, if◌then◌else◌, vec_capacity}
 pub use Rattle.circular_buffer.proofs.Places.{slice_get-set_other, slice_get-set_same}
 pub use Rattle.lapd_bits.specs.Ended.{without_octets}
@@ -74,7 +74,6 @@ pub use Rattle.lapd_link.specs.Outcome.{HasMessage, contents_in, given_by, told_
 pub use Rattle.lapd_link.specs.Stands.{Fits, LinkStands, terms_of}
 pub use Rattle.lapd_link.specs.declared.link.Link.{Link}
 pub use Rattle.lapd_link.specs.declared.offers.Offer.{Offer}
-pub use Rattle.lapd_link.specs.declared.requests.LinkRequest.{LinkRequest}
 pub use Rattle.lapd_store.proofs.Focus.{FocusPair, Part, focus_pair, octets-machines, second_part, slots-machines}
 pub use Rattle.lapd_store.proofs.Ownership.{Holds-empty, owned_octets-append}
 pub use Rattle.lapd_store.proofs.Queues.{Keeps-at, Keeps-put, Keeps-release, Keeps-used, length-pairs_of, owned_octets-pairs_of}
@@ -100,7 +99,7 @@ pub use Rattle.model_bits.specs.Stuffing.{unstuffed}
 pub use Rattle.model_bits.specs.declared.heads.Head.{Head}
 pub use Rattle.model_bits.specs.declared.heard.Cause.{Cause}
 pub use Rattle.model_bits.specs.declared.heard.Cause.TheVariants.{Unserved}
-pub use Rattle.model_line.proofs.AimsSound.{IsProper, aim_sound, management_event_sound}
+pub use Rattle.model_line.proofs.AimsSound.{IsProper, aim_sound}
 pub use Rattle.model_line.proofs.Drops.{drop_costs_nothing}
 pub use Rattle.model_line.proofs.LineSound.{fresh_sound}
 pub use Rattle.model_line.proofs.Numbers.{number_within, other_place, place_at-number, place_within, service_at-number}
@@ -112,10 +111,10 @@ pub use Rattle.model_line.proofs.Starts.{expiry_starts}
 pub use Rattle.model_line.specs.Counted.{answer_shown, counted, shown}
 pub use Rattle.model_line.specs.Counts.{may_send}
 pub use Rattle.model_line.specs.Effect.{Aim, at_a_terminal, at_link, at_management, at_no_link, at_none, at_terminal, at_units, of_aim, of_change, of_management, of_network, of_terminal, of_terminal_if, told_of_link, told_of_management, unserved_cause, with_cleared, with_opened, without_units}
-pub use Rattle.model_line.specs.Event.{Answer, Event, LineTold, NextFrame, dropped, expiry, gave, given_in, hears, next, nothing, told}
+pub use Rattle.model_line.specs.Event.{Answer, Event, LineTold, NextFrame, dropped, expiry, gave, hears, next, nothing, told}
 pub use Rattle.model_line.specs.Expiry.{aim_of_expiry, at_timer}
 pub use Rattle.model_line.specs.Laws.{orders_in}
-pub use Rattle.model_line.specs.Line.{Line, Own, UnitData, is_terminal, terminal_in, terminal_with, with_terminal, fresh_line, has_tei, link_at, link_count, link_in, link_number, link_of, place_at, place_in, service_at, state_in, state_of, tei_at, terms, terms_at, window, with_link}
+pub use Rattle.model_line.specs.Line.{Line, Own, UnitData, is_terminal, terminal_in, terminal_with, with_terminal, fresh_line, has_tei, link_at, link_count, link_in, link_number, link_of, place_at, place_in, service_at, tei_at, terms, terms_at, with_link}
 pub use Rattle.model_line.specs.Machine.{unless_refused, unless_refused_told}
 unfoldable pub use Rattle.model_line.specs.Machine.{after, answer}
 pub use Rattle.model_line.specs.Heard.{addressed, aim_of_long, aim_of_reading, aim_of_unnumbered, at_place, drop_for, group_tei, heard_side, message_of, to_service, unless_at_link}
@@ -156,12 +155,9 @@ pub use Rattle.model_teis.specs.declared.network.messages.Message.{Message}
 pub use Rattle.model_teis.specs.declared.network.messages.Message.TheVariants.{IdentityAssigned, IdentityCheckRequest, IdentityDenied, IdentityRemove}
 pub use Rattle.model_teis.specs.declared.changes.Change.{Change}
 pub use Rattle.model_bits.specs.Heard.{heard_of}
-pub use Rattle.model_bits.specs.declared.heard.Heard.{Heard}
-pub use Rattle.model_bits.specs.declared.heard.Heard.TheVariants.{Frame}
 pub use Rattle.model_card.specs.ports.Codec.{IsTextOf}
 pub use Rattle.model_line.specs.Came.{cause_of}
 pub use Rattle.model_link.proofs.Rows.{event_row}
 pub use Rattle.model_link.specs.declared.timers.LinkTimer.{LinkTimer}
 pub use Rattle.std.proofs.lemmas.Result.{IfErr-weaker, IfOk-weaker, on_err_weaker}
 pub use Rattle.std.proofs.lemmas.Slice.{drop-append-drop}
-pub use Rattle.std.specs.Borrow.{Bor}

@@ -1,10 +1,10 @@
 //! TEI management of a line, of either kind.
 
-ghost use Rattle.std.specs.Prelude.{◌≡◌, ◌≤◌, ◌<◌, false, length, None, Some, IfOk, IfErr, IfSome, OnOk, OnErr, is_some};
+ghost use Rattle.std.specs.Prelude.{◌≡◌, ◌<◌, false, length, None, Some, IfOk, IfErr, IfSome, OnOk, OnErr, is_some};
 ghost use Rattle.lapd_frame.specs.declared.addresses.Side.{Side as Spelt};
-ghost use Rattle.lapd_line.specs.Managing.{places_of, is_terminals, own_of, offered_by, first_type, held_by, IsBegunBy, Gives};
+ghost use Rattle.lapd_line.specs.Managing.{places_of, offered_by, first_type, held_by, IsBegunBy, Gives};
 ghost use Rattle.lapd_line.specs.Requests.{asked_aim, is_bad, refusal_at};
-ghost use Rattle.lapd_line.specs.TeiChanges.{IsAnswerTo, Answers};
+ghost use Rattle.lapd_line.specs.TeiChanges.{Answers};
 ghost use Rattle.lapd_tei.specs.Outcome.{IsShort};
 ghost use Rattle.model_teis.specs.Table.{place_of};
 ghost use Rattle.model_teis.specs.network.Events as teis;

@@ -11,7 +11,7 @@ use Rattle.lapd_link.proofs.ReadContents.{each-read}
 use Rattle.lapd_link.specs.Image.{AreContents, Becomes, IsContents, IsSaved, Takes}
 use Rattle.lapd_link_steps.proofs.ControlFrames.{is_waiting, may_wait}
 use Rattle.lapd_link_steps.proofs.Image.{head-length}
-use Rattle.lapd_link_steps.specs.Image.{AreWaiting, IsFit, IsSettled, IsSmall, MayWait, head, restored}
+use Rattle.lapd_link_steps.specs.Image.{AreWaiting, IsFit, IsSettled, IsSmall, head, restored}
 use Rattle.lapd_link_steps.specs.Image as image
 use Rattle.lapd_seq.proofs.Callers.{is_seq}
 use Rattle.lapd_seq.proofs.Remainders.{numbers-of}

@@ -1,9 +1,9 @@
 //! A link is read from an image of its card.
 
-ghost use Rattle.std.specs.Prelude.{◌≡◌, ◌-◌, ◌<◌, ◌≤◌, ℕ, List, [], length, IfOk, OnOk, OnErr};
+ghost use Rattle.std.specs.Prelude.{◌≡◌, ◌-◌, ◌<◌, ◌≤◌, ℕ, List, [], IfOk, OnOk, OnErr};
 ghost use Rattle.lapd_image.specs.Numbers.{contents, list_of};
 ghost use Rattle.lapd_image.specs.Reads.{HasNone, IsReadAs};
-ghost use Rattle.lapd_link.specs.{Keeps, Store, used_slots, SameLimits, Owned, Stays, terms_of};
+ghost use Rattle.lapd_link.specs.{Keeps, used_slots, SameLimits, Owned, Stays, terms_of};
 ghost use Rattle.lapd_link.specs.Image.{AreContents, IsContents, Takes, Restores, HasNoLink};
 ghost use Rattle.model_link.specs.Link as machine;
 

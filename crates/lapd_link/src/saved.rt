@@ -1,9 +1,9 @@
 //! A link is written into an image of its card.
 
-ghost use Rattle.std.specs.Prelude.{◌≡◌, ℕ, ◌<◌, ◌≤◌, List, [], length, get_or, flat_map, All};
+ghost use Rattle.std.specs.Prelude.{ℕ, ◌<◌, ◌≤◌, List, [], length, get_or, flat_map, All};
 ghost use Rattle.lapd_image.specs.Numbers.{contents};
 ghost use Rattle.lapd_image.specs.Puts.{Puts};
-ghost use Rattle.lapd_link.specs.{Keeps, Store, Owned, terms_of};
+ghost use Rattle.lapd_link.specs.{Keeps, Owned, terms_of};
 ghost use Rattle.lapd_link.specs.Image.{IsSaved};
 ghost use Rattle.model_bits.specs.StuffingLaws.{AreOctets};
 ghost use Rattle.model_link.specs.Image as image;

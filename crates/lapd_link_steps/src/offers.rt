@@ -1,7 +1,7 @@
 //! The next frame that is sent.
 
 ghost use Rattle.std.specs.Prelude.{◌≡◌, [], ℕ, ◌<◌, ◌≤◌, true, List, length, None, Some, IfSome, IsTrue, is_some};
-ghost use Rattle.lapd_link_steps.specs.{outstanding_of, Terms, Link, queue_of, given, BareReport, changed, awaiting, link_of, Fits, Changes, Gives, Rests, given_of};
+ghost use Rattle.lapd_link_steps.specs.{outstanding_of, Terms, Link, queue_of, given, BareReport, awaiting, link_of, Fits, Gives, Rests, given_of};
 ghost use Rattle.model_link.specs.Offers as offers;
 ghost use Rattle.lapd_link_steps.specs.Past.{Past};
 ghost use Rattle.lapd_link_steps.specs.Does.{Does};

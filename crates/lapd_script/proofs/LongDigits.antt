@@ -1,5 +1,5 @@
 -- Words that are longer than the digits of any frame.
-use Rattle.lapd_script.proofs.Vocabulary.{◌≡◌, ℕ, ◌*◌, ◌%◌, ◌<◌, Bool, true, false, ◌&&◌, if◌then◌else◌, List, [], ◌∷◌, length, get_or, Some, None, is_some, Result, Ok, Err, refl, ap, sym, ◌∙◌, arith, codes, bytes_eq, nat_eq, list_all, AllPass, is_ascii_hexdigit, is_in_range, false≢true, AllPass-from_list_all, list_all-from_AllPass, FromHexError, decode_of, is_hex_digit, decode_of-digits}
+use Rattle.lapd_script.proofs.Vocabulary.{◌≡◌, ℕ, ◌*◌, ◌%◌, ◌<◌, Bool, true, false, ◌&&◌, if◌then◌else◌, List, [], ◌∷◌, length, get_or, Some, None, is_some, Ok, Err, refl, ap, sym, ◌∙◌, arith, codes, bytes_eq, nat_eq, list_all, AllPass, is_ascii_hexdigit, is_in_range, false≢true, AllPass-from_list_all, list_all-from_AllPass, decode_of, is_hex_digit, decode_of-digits}
 use Rattle.lapd_script.proofs.Vocabulary.{decode_of-ok, BadOctets, octets, or_bad}
 use Rattle.std.proofs.Common.{◌||◌}
 

@@ -1,5 +1,5 @@
 -- What `parse` reads of decimal digits.
-use Rattle.lapd_script.proofs.Vocabulary.{◌≡◌, ℕ, ◌<◌, ◌^◌, true, false, ◌&&◌, List, [], ◌∷◌, None, Ok, Err, Result, refl, sym, ap, ◌∙◌, arith, list_all, is_ascii_digit, all_ascii_digits, IsUtf8, IsAscii, digits_value, ParsesUnsigned, result_ok, IsUtf8-from_ascii, IsAscii-nil, IsAscii-cons, IsNumeralModel, numerals_by_value, tells_all_ascii_digits, parse_digits, number, within}
+use Rattle.lapd_script.proofs.Vocabulary.{◌≡◌, ℕ, ◌<◌, ◌^◌, true, ◌&&◌, List, [], ◌∷◌, Ok, Err, Result, refl, sym, ap, ◌∙◌, arith, list_all, is_ascii_digit, all_ascii_digits, IsUtf8, IsAscii, digits_value, ParsesUnsigned, result_ok, IsUtf8-from_ascii, IsAscii-nil, IsAscii-cons, IsNumeralModel, numerals_by_value, tells_all_ascii_digits, parse_digits, number, within}
 
 own : IsNumeralModel (λ word. all_ascii_digits word ≡ true) (digits_value 10)
 own = numerals_by_value _ tells_all_ascii_digits

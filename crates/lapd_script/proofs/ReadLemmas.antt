@@ -1,5 +1,5 @@
 -- What is read of words that stand in references, and of lines with too many.
-use Rattle.lapd_script.proofs.Vocabulary.{◌≡◌, ℕ, Bool, true, false, cond, List, [], ◌∷◌, length, take, drop, get_or, Some, Ok, Err, Result, Option, refl, sym, ap, ◌∙◌, Bor, arith, IsErr, IsErrAnd, false≢true, FaultKind, BadNumberOfWords, Config, Word, Ask, texts, word_named, carries_octets}
+use Rattle.lapd_script.proofs.Vocabulary.{◌≡◌, ℕ, Bool, true, false, cond, List, [], ◌∷◌, length, take, get_or, Ok, Err, Result, Option, refl, sym, ap, ◌∙◌, Bor, arith, IsErr, IsErrAnd, false≢true, FaultKind, BadNumberOfWords, Config, Word, Ask, texts, word_named, carries_octets}
 use Rattle.std.specs.Prelude.{◌≤◌, ◌-◌, ◌&&◌, nat_le, bytes_eq, codes, zero, suc}
 use Rattle.lapd_script.specs.declared.word.Word.TheVariants.{Card}
 use Rattle.lapd_script.specs.declared.kind.FaultKind.TheVariants.{UnknownWord}

@@ -1,5 +1,5 @@
 -- What is read into the buffer of the lines.
-use Rattle.lapd_script.proofs.Vocabulary.{◌≡◌, ◌≢◌, ℕ, ◌+◌, ◌-◌, ◌<◌, ◌≤◌, Bool, true, false, cond, eqb, ltb, List, [], ◌++◌, length, get_or, take, drop, Some, None, Option, inl, inr, refl, sym, ap, ◌∙◌, subst, append_assoc, arith, copy_within, AllWithin, HoldsAt, position, position_or_len, cases_lt, eqb-false, nat_tests, common_steps, get_or-drop, get_or-take, length-drop, length-take}
+use Rattle.lapd_script.proofs.Vocabulary.{◌≡◌, ◌≢◌, ℕ, ◌+◌, ◌-◌, ◌<◌, ◌≤◌, Bool, true, false, cond, eqb, ltb, List, [], ◌++◌, length, get_or, take, drop, Some, None, Option, inl, inr, sym, ap, ◌∙◌, subst, append_assoc, arith, copy_within, AllWithin, HoldsAt, position, cases_lt, eqb-false, nat_tests, common_steps, get_or-drop, get_or-take, length-drop, length-take}
 use Rattle.lapd_script.proofs.Vocabulary.{take-append-le, take_at, take-take, with_items_is, position-Some, fails_before_first, Consumes, IsAtEnd, Keeps, Vec, with_items, length-paste, take-paste, between_is, take-append-add, ScriptLines, held, AreLeft}
 use Rattle.std.proofs.lemmas.List.{length-append}
 use borrow.Rule.Slice.PartMut.{put_mid}

@@ -1,5 +1,5 @@
 -- What stands behind the octets that a word is read into.
-use Rattle.lapd_script.proofs.Vocabulary.{◌≡◌, ℕ, ◌+◌, ◌-◌, ◌/◌, ◌≤◌, List, [], ◌∷◌, length, drop, Bor, sym, ap, ◌∙◌, subst, arith, All, drop-drop, All-head, All-tail}
+use Rattle.lapd_script.proofs.Vocabulary.{◌≡◌, ℕ, ◌+◌, ◌-◌, ◌/◌, ◌≤◌, List, [], ◌∷◌, length, drop, Bor, sym, ap, ◌∙◌, arith, All, drop-drop}
 
 -- what is equal from one place on is equal from a later one on
 kept_further : (i j : ℕ) (a b : List ℕ) → i ≤ j → drop i a ≡ drop i b → drop j a ≡ drop j b

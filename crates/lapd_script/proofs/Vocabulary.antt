@@ -6,7 +6,7 @@ pub use Rattle.std.proofs.lemmas.Bool.Decides.{eqb_tells, nat_tests}
 pub use Rattle.std.proofs.lemmas.Grind.{common_steps}
 pub use Rattle.std.proofs.lemmas.List.{append-nil, drop-append-le, drop-drop, drop_all, drop_more, get_or-drop, get_or-take, length-map, length-take, map-append, take-append-drop, take-append-le, take-take, take_at, with_items_is}
 pub use Rattle.std.proofs.lemmas.List.Edits.{length-paste, take-paste}
-pub use Rattle.std.proofs.lemmas.List.Elements.{All-head, All-push, All-tail}
+pub use Rattle.std.proofs.lemmas.List.Elements.{All-push, All-tail}
 pub use Rattle.std.proofs.lemmas.List.Quantifiers.{position-Some}
 pub use Rattle.std.proofs.lemmas.List.Splits.{slice_split_first, slice_split_none}
 pub use Rattle.std.proofs.lemmas.List.Sums.{AllPass-from_list_all, fails_before_first, list_all-from_AllPass, position_or_len_is}
@@ -25,10 +25,8 @@ pub use Rattle.std.specs.Str.Parse.{ParsesUnsigned, digits_value}
 pub use Rattle.std.specs.Vec.{with_items}
 pub use Rattle.hex.proofs.HexLemmas.{decode_of-digits, decode_of-ok}
 pub use Rattle.hex.specs.Hex.{decode_of, is_hex_digit}
-pub use Rattle.hex.specs.declared.error.FromHexError.{FromHexError}
 pub use Rattle.lapd_frame.specs.Grammar.{Parts, Spells, parts_of}
 pub use Rattle.lapd_frame.specs.declared.addresses.Side.{Side}
-pub use Rattle.lapd_frame.specs.declared.addresses.Side.TheVariants.{Network}
 pub use Rattle.lapd_script.specs.FaultLines.{play_line}
 pub use Rattle.lapd_script.specs.Job.{Job, frame, job, job_or_none, limits_of, seen}
 pub use Rattle.lapd_script.specs.Number.{number, within}

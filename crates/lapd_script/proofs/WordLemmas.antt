@@ -1,5 +1,5 @@
 -- How words are split off.
-use Rattle.lapd_script.proofs.Vocabulary.{◌≡◌, ℕ, ◌+◌, ◌<◌, ◌≤◌, Bool, true, false, cond, ltb, List, [], ◌∷◌, ◌++◌, length, take, drop, Some, None, sym, ◌∙◌, arith, eqb, subst, append_assoc, Bor, take_all, ◌-◌, length-drop, length-append, position, position_or_len, slice_split_first, slice_split_none, position_or_len_is, fails_before_first, position-Some, map-append, length-map, take-append_seam}
+use Rattle.lapd_script.proofs.Vocabulary.{◌≡◌, ℕ, ◌+◌, ◌≤◌, Bool, true, false, cond, ltb, List, [], ◌∷◌, ◌++◌, length, take, drop, Some, None, sym, ◌∙◌, arith, eqb, subst, append_assoc, Bor, take_all, ◌-◌, length-drop, length-append, position, position_or_len, slice_split_first, slice_split_none, position_or_len_is, fails_before_first, position-Some, map-append, length-map, take-append_seam}
 use Rattle.lapd_script.proofs.Vocabulary.{common_steps, words_of, texts}
 
 abbrev is_space : ℕ → Bool

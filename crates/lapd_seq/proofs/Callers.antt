@@ -1,5 +1,5 @@
 -- What crates above may cite of sequence numbers.
-use Rattle.lapd_seq.proofs.Vocabulary.{◌≡◌, ℕ, ◌+◌, ◌%◌, ◌<◌, ◌≤◌, ap, subst, arith, Seq, seq, distance_of, AreNumbers, IsValid, IsNamed}
+use Rattle.lapd_seq.proofs.Vocabulary.{◌≡◌, ℕ, ◌+◌, ◌%◌, ◌<◌, ap, subst, arith, Seq, seq, distance_of, AreNumbers, IsValid, IsNamed}
 use denote.Struct.Props.{props}
 
 -- two sequence numbers of one value are one

@@ -3,10 +3,9 @@ use Rattle.lapd_sim.proofs.Vocabulary.{◌≡◌, ℕ, ◌<◌, ◌≤◌, nat_l
 use Rattle.lapd_script.specs.Meaning as meaning
 use Rattle.model_card.specs.declared.kinds.CardKind.TheVariants.{Octets, Frames}
 use Rattle.lapd_sim.specs.declared.setup.Setup as rust
-use Rattle.lapd_sim.proofs.Vocabulary.{Bool, Has, IsErr, IsPut, None, Option, Some, none-some, nothing, puts_nothing, told_text}
+use Rattle.lapd_sim.proofs.Vocabulary.{Bool, IsErr, IsPut, None, Option, Some, none-some, nothing, puts_nothing, told_text}
 use Rattle.std.proofs.Common.{arith, false, nat_le}
 use Rattle.std.proofs.lemmas.Bool.Decides.{nat_tests}
-use Rattle.std.proofs.lemmas.Option.{same_Some}
 use Rattle.lapd_clock.specs.Timer.{Lengths, first_out_of_range}
 use Rattle.lapd_clock.specs.declared.fault.LengthFault.{LengthFault}
 use Rattle.lapd_script.specs.declared.kind.FaultKind.TheVariants.{BadNumber}
@@ -73,12 +72,6 @@ moved_to r s t is e = subst (λ x. r ≡ Ok x) e is
 pub if_ok : {A E P : Type 0} (r : Result A E) → (IsErr r → ⊥) → OnOk r P → P
 if_ok (Ok x) sound one = one
 if_ok (Err e) sound one = absurd (sound refl)
-
--- where there is a setup, it stands for one
-pub has_some : (b : Option rust.Setup) (s : rust.Setup) → b ≡ Some s → (m : Option Setup) × Has b m → (m : Setup) × SetupStands s m
-has_some None s is h = absurd (none-some s is)
-has_some (Some b) s is (None, h) = absurd h
-has_some (Some b) s is (Some m, h) = (m, subst (λ (x : rust.Setup). SetupStands x m) (same_Some b s is) h)
 
 -- where nothing happened nothing is said, whatever is shown
 pub nothing_told : (losses : Bool) (line : ℕ) (a : Output) → IsPut a a (told_text losses line None nothing)

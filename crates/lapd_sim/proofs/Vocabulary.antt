@@ -9,11 +9,11 @@ pub use Rattle.std.proofs.lemmas.List.Folds.{list_any_none}
 pub use Rattle.std.proofs.lemmas.Option.{none-some}
 pub use Rattle.std.specs.Io.KnownBytes.{Appends}
 pub use Rattle.std.specs.List.{flat_map, range_with_len}
-pub use Rattle.std.specs.Prelude.{All, IfErr, IfOk, IfSome, IsErr, IsTrue, filter, is_some, option_copied, option_map, option_to_list, ◌==◌, ◌||◌}
+pub use Rattle.std.specs.Prelude.{All, IfErr, IfOk, IsErr, IsTrue, filter, is_some, option_copied, option_map, option_to_list, ◌==◌, ◌||◌}
 pub use Rattle.lapd_clock.specs.Timer.{AreInRange, Timer}
 pub use Rattle.lapd_clock.specs.Timers.{Expiry}
 pub use Rattle.lapd_count.specs.Counters.{none_counted}
-pub use Rattle.lapd_line.specs.Reports.{delivered_in, gave_in, octets_of, pulled_of, told_beside, told_in}
+pub use Rattle.lapd_line.specs.Reports.{delivered_in, gave_in, octets_of, pulled_of, told_beside}
 pub use Rattle.lapd_script.specs.Faults.{fault_at, reads_failed, reads_failed_by, writes_failed, writes_failed_by}
 pub use Rattle.lapd_script.specs.Meaning.{Meaning, meant}
 pub use Rattle.lapd_script.specs.Pieces.{line_in, pieces_of, with_octet}
@@ -41,7 +41,7 @@ pub use Rattle.lapd_transcript.specs.Counted.{counters_text}
 pub use Rattle.lapd_transcript.specs.Listened.{Hears, pulled_text}
 pub use Rattle.lapd_transcript.specs.Pages.{on}
 pub use Rattle.lapd_transcript.specs.Streams.{IsBroken, IsPut, IsSent, IsStuck, IsWritten, Output, Puts, Taken, Writes, one_failure_more}
-pub use Rattle.lapd_transcript.specs.Terminal.{Sends, after_sending, octets_sent}
+pub use Rattle.lapd_transcript.specs.Terminal.{Sends, after_sending}
 pub use Rattle.lapd_transcript.specs.declared.streams.WriteFailed.{WriteFailed}
 pub use Rattle.model_bits.specs.Stream.{dropped}
 pub use Rattle.model_line.proofs.Ranges.{ranges_of}
@@ -54,8 +54,7 @@ unfoldable pub use Rattle.lapd_sim.specs.machine.Board.{reply}
 pub use Rattle.lapd_sim.specs.machine.Script.{Fault, Played, after_bench, after_meaning, after_piece, after_reading, after_scene, counted, faulty, first_fault, is_too_long, not_begun, one_more, played, transcript, unless_faulty}
 pub use Rattle.lapd_sim.specs.machine.Setup.{Setup, happened, taken_at, terminal_at, with_terminal}
 pub use Rattle.lapd_sim.specs.machine.Steps.{Pulls, Scene, after_coming, after_counters, after_down, after_failed, after_next, after_pull, after_rx, after_wait, at_expiry, at_line, can_come, deactivations, downs, due_by, expired, for_frames, for_octets, is_on_line, last_moment, octet_in, octets_at, one_pull, pulls, reply_text, teis_on, time_until, until, with_card, with_event, with_events}
-pub use Rattle.lapd_sim.specs.machine.Steps.{after_losses, shown_losses, told_text, without_card}
-pub use Rattle.lapd_card.specs.{told_if_at}
+pub use Rattle.lapd_sim.specs.machine.Steps.{shown_losses, told_text, without_card}
 pub use Rattle.lapd_card.specs.Counted.{counters_in}
 pub use Rattle.lapd_card.specs.FrameCard.{Held}
 pub use Rattle.lapd_count.specs.declared.counters.Counters.{Counters}

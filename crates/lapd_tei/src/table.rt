@@ -132,7 +132,7 @@ impl Table {
     }
 
     // The TEIs that are on the line, by place.
-    #[tactic(auto, using(model_teis::proofs::Named::teis_more, model_teis::proofs::Named::teis_room))]
+    #[tactic(auto, using(crate::proofs::Named::teis_more, crate::proofs::Named::teis_room))]
     fn teis(&self) -> ArrayVec<u8, MOST>
         ensures { result.items ≡ teis_on self.now }
     {

@@ -1,5 +1,5 @@
 -- An event with its orders: how they begin to be carried out, and what stands when all are.
-use Rattle.std.proofs.Common.{◌≡◌, inl, inr, ℕ, ◌*◌, ◌<◌, true, false, Option, Some, None, refl, sym, ap, ◌∙◌, subst}
+use Rattle.std.proofs.Common.{◌≡◌, inl, inr, ℕ, ◌*◌, ◌<◌, true, Option, Some, None, refl, sym, ap, ◌∙◌, subst}
 use Rattle.std.proofs.lemmas.Bool.{false≢true}
 use Rattle.lapd_clock.specs.Firsts.{never}
 use Rattle.lapd_clock.specs.Timers.{is_held}

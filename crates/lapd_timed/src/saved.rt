@@ -6,7 +6,7 @@ ghost use Rattle.lapd_card.specs.Kinds.{line_count};
 ghost use Rattle.lapd_image.specs.Puts.{Puts};
 ghost use Rattle.lapd_image.specs.Numbers.{number};
 ghost use Rattle.lapd_timed.specs.Stands.{AreOfLines};
-ghost use Rattle.lapd_timed.specs.Image.{card_part, head_of, is_octets, lines_in, AreAllMarks, IsRestoredFrom, IsSavedCard, StandsFor};
+ghost use Rattle.lapd_timed.specs.Image.{card_part, head_of, is_octets, lines_in, IsRestoredFrom, IsSavedCard, StandsFor};
 ghost use Rattle.lapd_timed.specs.declared.saved.ImageFault.TheVariants as faults;
 ghost use Rattle.model_line.specs.ConfigImage.{config as image_of_config};
 ghost use Rattle.model_image.specs.Images.{image_of, Saved};

@@ -1,5 +1,5 @@
 -- What is said of the rows of a table of counters with their names is said of the counters.
-use Rattle.lapd_transcript.proofs.Vocabulary.{arith, ◌≡◌, ◌++◌, ℕ, List, [], ◌∷◌, refl, sym, ap, ◌∙◌, append_assoc, map, flat_map, list_all, Bor, Counter, Counters, group_name, own_name, row, row_text, value_text, with_name, is_zero, counter_text}
+use Rattle.lapd_transcript.proofs.Vocabulary.{◌≡◌, ◌++◌, ℕ, List, [], ◌∷◌, refl, sym, ap, ◌∙◌, append_assoc, map, flat_map, list_all, Bor, Counter, Counters, group_name, own_name, row, row_text, value_text, with_name, is_zero, counter_text}
 use Rattle.lapd_count.specs.declared.counter.Counter.TheVariants.{Frames}
 use Rattle.lapd_count.specs.declared.counter.Way.TheVariants.{Heard}
 use Rattle.lapd_count.specs.declared.kinds.Kind.TheVariants.{Information}

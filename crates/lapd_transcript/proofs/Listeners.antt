@@ -1,5 +1,5 @@
 -- What a listener has heard, and what has been written of it, while it is told octet by octet.
-use Rattle.lapd_transcript.proofs.Vocabulary.{arith, ◌≡◌, ℕ, List, [], ◌∷◌, ◌++◌, length, drop, filter_map, Ok, Err, Bor, Option, option_to_list, refl, sym, ap, ◌∙◌, subst, append_assoc, drop-append_seam, filter_map-append, flat_map-append, one_event_an_octet, heard_of, heard_in, Heard, Frame, Deframer, Output, IsPut, IsStuck, frame_text, WriteFailed, Hears, frame_in, found}
+use Rattle.lapd_transcript.proofs.Vocabulary.{arith, ◌≡◌, ℕ, List, [], ◌∷◌, ◌++◌, length, drop, filter_map, Err, Bor, Option, option_to_list, sym, ap, ◌∙◌, subst, append_assoc, drop-append_seam, filter_map-append, flat_map-append, one_event_an_octet, heard_of, heard_in, Heard, Frame, Deframer, Output, IsPut, IsStuck, frame_text, WriteFailed, Hears, frame_in, found}
 use Rattle.lapd_transcript.proofs.Known.{puts_nothing, puts_then, stuck_more}
 use Rattle.std.proofs.Common.{flat_map, append-nil}
 use Rattle.model_bits.specs.Stream.{Event}

@@ -1,5 +1,5 @@
 -- What a terminal has put on its line, up to the octets of a frame that it sends.
-use Rattle.lapd_transcript.proofs.Vocabulary.{◌≡◌, ℕ, zero, suc, ◌+◌, ◌*◌, ◌%◌, ◌==◌, ◌<◌, ◌≤◌, Bool, true, if◌then◌else◌, List, [], ◌∷◌, ◌++◌, length, drop, refl, ap, sym, ◌∙◌, subst, arith, append_assoc, length-append, le-ltb, lt-ltb, ne_eqb, append-nil, drop_at, All-append, All-head, All-tail, bits, flag, low_bits, octets_of, check, stuffed, Framing, refilled, with_idle, Item, idle, frame}
+use Rattle.lapd_transcript.proofs.Vocabulary.{◌≡◌, ℕ, zero, suc, ◌+◌, ◌*◌, ◌%◌, ◌==◌, ◌<◌, ◌≤◌, Bool, true, if◌then◌else◌, List, [], ◌∷◌, ◌++◌, length, drop, refl, ap, sym, ◌∙◌, subst, arith, append_assoc, length-append, le-ltb, lt-ltb, ne_eqb, append-nil, drop_at, All-append, All-head, All-tail, bits, flag, low_bits, octets_of, stuffed, Framing, refilled, with_idle, Item, idle, frame}
 use Rattle.lapd_transcript.proofs.Vocabulary.{item_text, line_text, AreOctets, bits-append, length-bits, length-low_bits, length-check, number_of-low_bits, HasPut, Sends, with_frame, sending}
 use Rattle.model_bits.specs.Framer as framing
 use Rattle.lapd_transcript.specs.Terminal.{Terminal, octets_sent, after_sending}

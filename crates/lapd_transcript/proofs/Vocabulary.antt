@@ -1,31 +1,27 @@
 -- The words with which the proofs of this crate speak, from where they are defined.
-pub use Rattle.std.proofs.Common.{Bool, Bor, Err, List, None, Ok, Option, Result, Some, [], ap, append_assoc, arith, codes, decimal, drop, false, filter_map, get_or, if◌then◌else◌, is_some, length, length-append, length-drop, lit<, map, option_map, option_to_list, refl, subst, suc, sym, take, take_all, true, zero, ℕ, ◌%◌, ◌*◌, ◌++◌, ◌+◌, ◌-◌, ◌/◌, ◌<◌, ◌==◌, ◌^◌, ◌∙◌, ◌∷◌, ◌≡◌, ◌≤◌}
+pub use Rattle.std.proofs.Common.{Bool, Bor, Err, List, None, Ok, Option, Result, Some, [], ap, append_assoc, arith, codes, decimal, drop, false, filter_map, get_or, if◌then◌else◌, length, length-append, length-drop, map, option_to_list, refl, subst, suc, sym, take, take_all, true, zero, ℕ, ◌%◌, ◌*◌, ◌++◌, ◌+◌, ◌-◌, ◌<◌, ◌==◌, ◌∙◌, ◌∷◌, ◌≡◌, ◌≤◌}
 pub use Rattle.std.proofs.Math.Seq.{drop-append_seam, take-append-add, take-append_seam}
 pub use Rattle.std.proofs.lemmas.Bool.{false≢true, le-ltb, lt-ltb, ne_eqb}
-pub use Rattle.std.proofs.lemmas.Fmt.{decimal_digit, decimal_step, length-decimal-le}
 pub use Rattle.std.proofs.lemmas.Grind.{flat_map-append}
 pub use Rattle.std.proofs.lemmas.List.{append-nil, drop_at, take-append-drop, take_more}
 pub use Rattle.std.proofs.lemmas.List.Elements.{All-append, All-head, All-tail, filter_map-append}
-pub use Rattle.std.specs.Char.{to_ascii_uppercase}
 pub use Rattle.std.specs.Io.KnownBytes.{Appends, Keeps}
 pub use Rattle.std.specs.List.{flat_map, list_all}
-pub use Rattle.std.specs.Prelude.{IsErr, IsOk, OnErr, OnOk, is_ok, slice_index}
-pub use Rattle.hex.specs.Hex.{encode_lower, encode_upper, lower_digits, upper_digits}
-unfoldable pub use Rattle.hex.specs.Hex.{encode_with}
+pub use Rattle.std.specs.Prelude.{IsErr, IsOk, OnErr, OnOk, is_ok}
+pub use Rattle.hex.specs.Hex.{encode_upper}
 pub use Rattle.lapd_bits.specs.Deframer.{latest_of}
 pub use Rattle.lapd_bits.specs.declared.deframer.Deframer.{Deframer}
 pub use Rattle.lapd_count.specs.declared.counter.Counter.{Counter}
 pub use Rattle.lapd_count.specs.declared.counters.Counters.{Counters}
 pub use Rattle.lapd_frame.specs.Grammar.{parts_of}
 pub use Rattle.lapd_frame.specs.declared.notes.Note.{Note}
-pub use Rattle.lapd_seq.specs.declared.numbers.Seq.{Seq}
 pub use Rattle.lapd_transcript.specs.CounterNames.{row, row_text, value_text, with_name}
 pub use Rattle.lapd_transcript.specs.Counted.{counter_text, group_name, is_zero, names_of, own_name}
 pub use Rattle.lapd_transcript.specs.Listened.{Hears, found, frame_in}
 pub use Rattle.lapd_transcript.specs.Pages.{on}
 pub use Rattle.lapd_transcript.specs.Put.{HasPut}
 pub use Rattle.lapd_text.proofs.OctetDigits.{encoded_singly}
-pub use Rattle.lapd_text.specs.Shown.{head_text, joined, octets_text, shown_text}
+pub use Rattle.lapd_text.specs.Shown.{head_text, joined, octets_text}
 pub use Rattle.lapd_transcript.specs.Streams.{IsBroken, IsPut, IsStuck, IsWritten, Output, Puts, Taken, Writes, one_failure_more}
 pub use Rattle.lapd_transcript.specs.Terminal.{Sends, sending, with_frame}
 pub use Rattle.lapd_transcript.specs.Text.{dropped_text, frame_text, lost_text, note_text, nothing_text}
@@ -35,7 +31,6 @@ pub use Rattle.model_bits.proofs.Division.Unique.{length-check}
 pub use Rattle.model_bits.proofs.OneEvent.{one_event_an_octet}
 pub use Rattle.model_bits.specs.Bits.{bits, flag, octets_of}
 unfoldable pub use Rattle.model_bits.specs.Bits.{low_bits}
-pub use Rattle.model_bits.specs.Check.{check}
 pub use Rattle.model_bits.specs.Framer.{Framing, refilled, with_idle}
 pub use Rattle.model_bits.specs.Heard.{heard_of}
 pub use Rattle.model_bits.specs.Sent.{Item, frame, idle, item_text, line_text}

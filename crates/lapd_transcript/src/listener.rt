@@ -1,6 +1,6 @@
 //! What is told of the octets that a line takes: the octets, and the frames that are complete in them.
 
-ghost use Rattle.std.specs.Prelude.{◌≡◌, ◌<◌, ℕ, List, ◌++◌, flat_map, OnOk};
+ghost use Rattle.std.specs.Prelude.{◌<◌, ℕ, List, ◌++◌, flat_map, OnOk};
 ghost use Rattle.lapd_transcript.specs.{Hears, found, pulled_text, on, Puts, frame_text};
 
 use crate::output::Page;

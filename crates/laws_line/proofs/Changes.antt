@@ -1,5 +1,5 @@
 -- What every step of TEI management is, of whatever side, with what it notes.
-use Rattle.laws_line.proofs.Vocabulary.{◌≡◌, ℕ, Bool, true, false, cond, List, [], ◌∷◌, Option, Some, None, IfSome, refl, sym, subst, ap, ◌∙◌, arith, Note, Moves, Change, Management, IsSoundTable, Config, Line, LineTold, Own, Effect, nothing, is_terminal, terminal_in, of_change, of_management, of_network, of_terminal, of_terminal_if, at_a_terminal}
+use Rattle.laws_line.proofs.Vocabulary.{◌≡◌, Bool, true, false, cond, List, [], ◌∷◌, Option, Some, None, IfSome, refl, sym, subst, arith, Note, Moves, Change, Management, IsSoundTable, Config, Line, LineTold, Own, Effect, nothing, is_terminal, terminal_in, of_change, of_management, of_network, of_terminal, of_terminal_if, at_a_terminal}
 use Rattle.laws_line.proofs.Vocabulary.{told_of_management, IsSound, IsOfSide, IsUnused}
 use Rattle.laws_line.proofs.Vocabulary.{TeiEvent, tei_told, tei_after, Terminal, TerminalEvent, terminal_told, terminal_after, IsOwnEvent}
 use Rattle.laws_line.proofs.Vocabulary.{is_some, Order, Follows, t201_follows}
@@ -12,7 +12,7 @@ use Rattle.model_teis.proofs.OfNetwork.LawLemmas as tei_lemmas
 use Rattle.model_teis.specs.terminal.Events as terminals
 use Rattle.model_teis.specs.terminal.Laws as terminal_laws
 use Rattle.model_teis.specs.terminal.Sound as terminal
-use Rattle.model_teis.specs.terminal.Words.{Course, begun}
+use Rattle.model_teis.specs.terminal.Words.{Course}
 use Rattle.model_teis.proofs.OfTerminal.Brief as brief
 use Rattle.model_teis.proofs.OfTerminal.Served.{leads}
 use Rattle.model_teis.proofs.OfTerminal.Told.{t202_follows}

@@ -1,6 +1,6 @@
 -- A frame that is taken is no longer among those to go.
-use Rattle.laws_line.proofs.Vocabulary.{◌≡◌, ℕ, ◌+◌, ◌≤◌, ◌<◌, Bool, List, ◌∷◌, length, get_or, set, Some, IfSome, ap, ◌⊎◌, arith, ltb-true, and_parts, get_or-set_same, get_or-set_other, ControlFrame, Terms, Link, Given, HasNothingToSend, nothing-to_send, Message, Config, Line, UnitData, link_count, service_at, place_at, terms, link_at, Taken, with_unit, with_given_frame, taken, sum_of_links}
-use Rattle.laws_line.proofs.Vocabulary.{refl, Management, Own, GoesOut, without_message, to_go_at_link, sum_changed, IsAt, taken_walk, fresh, begun as course_begun, frame_of, with_message, IsSound, link_to_go, frames_to_go, link_offer, link_given, link_after}
+use Rattle.laws_line.proofs.Vocabulary.{◌≡◌, ℕ, ◌+◌, ◌≤◌, ◌<◌, Bool, List, ◌∷◌, length, get_or, set, Some, IfSome, ap, ◌⊎◌, arith, ltb-true, and_parts, get_or-set_same, get_or-set_other, ControlFrame, Terms, Link, Given, HasNothingToSend, nothing-to_send, Config, Line, UnitData, link_count, service_at, place_at, terms, link_at, Taken, with_unit, with_given_frame, taken, sum_of_links}
+use Rattle.laws_line.proofs.Vocabulary.{refl, Management, Own, GoesOut, without_message, to_go_at_link, sum_changed, IsAt, taken_walk, fresh, begun as course_begun, IsSound, link_to_go, frames_to_go, link_offer, link_given, link_after}
 use Rattle.model_link.specs.Offers
 use Rattle.model_link.specs.Sound as link_sounds
 

@@ -1,8 +1,8 @@
 -- By notes layer 3 knows which links are up: each event.
 use Rattle.laws_line.proofs.Vocabulary.{◌≡◌, ℕ, ◌==◌, ◌&&◌, Bool, true, false, cond, List, [], set, get_or, Option, Some, None, refl, ap, sym, ◌∙◌, subst, arith, eq-eqb, true≢false, inl, inr, next_walk, fold, option_map_or, get_or-set_other, fold-append, none-some, Note, Service, Call, Packet, same_service, T201, is_up, Link, offer_among, ControlFrame, Terms, LinkTimer, layer_3_knows, notes-own}
-use Rattle.laws_line.proofs.Vocabulary.{Moves, Management, IsAt, IsSoundTable, is_on, place_of, Change, Gained, Left, at-off, place_of-is, Config, hears, request, next, at_link, at_management, told_of_management, of_change, of_aim, at_timer, Line, link_number, service_at, place_at, place_in, link_at, link_in, terms, with_link, aim_of_heard, Taken, taken, line_of, with_unit, with_given_frame}
-use Rattle.laws_line.proofs.Vocabulary.{Request, Establish, Release, Assign, Remove, SetBusy, ClearBusy, Deactivate, at_requested, at_deactivated, aim_of_request, IsProper, heard_aims, request_proper, Down, eqb-true, T200, T203, fresh, LinkCourse as Course, begun, Event, expiry, after, answer, with_message, Data, Unit, Check, IsSound, up_by_note, taken_for_up, is_up_of, link_offer, link_received}
-use Rattle.laws_line.proofs.Vocabulary.{LinkEstablish, LinkRelease, link_expired, LinkClearBusy, link_requested, LinkRequest, LinkData, link_cleared, LinkSetBusy, LinkEvent, link_told, link_after, StreamEvent, message, tei_told, check, disown, tei_after, remove, assigning, tei_expiry, TeiEvent, Disown}
+use Rattle.laws_line.proofs.Vocabulary.{Moves, Management, IsAt, IsSoundTable, is_on, place_of, Change, Gained, Left, at-off, place_of-is, Config, hears, request, next, at_link, at_management, of_change, of_aim, at_timer, Line, link_number, service_at, place_at, place_in, link_at, link_in, terms, with_link, aim_of_heard, Taken, taken, line_of, with_unit, with_given_frame}
+use Rattle.laws_line.proofs.Vocabulary.{Request, Establish, Release, Assign, Remove, SetBusy, ClearBusy, Deactivate, at_requested, at_deactivated, aim_of_request, IsProper, heard_aims, request_proper, Down, eqb-true, T200, T203, fresh, LinkCourse as Course, begun, Event, expiry, after, answer, Data, Unit, Check, IsSound, up_by_note, taken_for_up, is_up_of, link_offer, link_received}
+use Rattle.laws_line.proofs.Vocabulary.{LinkEstablish, LinkRelease, link_expired, LinkClearBusy, link_requested, LinkRequest, LinkData, link_cleared, LinkSetBusy, LinkEvent, link_told, link_after, StreamEvent, message, check, disown, remove, assigning, tei_expiry, TeiEvent, Disown}
 use Rattle.model_teis.specs.Changes.{HasJoined, HasLeft}
 use Rattle.model_teis.specs.network.Laws as tei_laws
 use Rattle.model_line.proofs.Following.{some-same, and-false}

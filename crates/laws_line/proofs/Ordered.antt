@@ -1,7 +1,7 @@
 -- A control frame that waits is taken in its turn: after the messages, the unit data, and at most one frame of each other
 -- link for each of its own that goes before it.
-use Rattle.laws_line.proofs.Vocabulary.{◌≡◌, ◌≢◌, ℕ, ◌+◌, ◌<◌, ◌≤◌, List, [], ◌∷◌, ◌++◌, length, drop, slice_get, Option, Some, None, refl, sym, ap, subst, ◌∙◌, ◌⊎◌, inl, inr, ⊎_elim, arith, option_map_or, option_or, cases_eq, get_or-set_same, get_or-set_other, ControlFrame, Given, GoesWhole, Message, Config, next, Line, UnitData, link_count, place_at, tei_at, terms_at, link_at, Taken, with_unit}
-use Rattle.laws_line.proofs.Vocabulary.{with_given_frame, link_taken, first_taken, round, taken, line_of, IsInRange, option_map, after, with_message, IsSound, IsInTurn, way_round, frames_before, control_text, link_given, nat_le, leb-true}
+use Rattle.laws_line.proofs.Vocabulary.{◌≡◌, ◌≢◌, ℕ, ◌+◌, ◌<◌, ◌≤◌, List, [], ◌∷◌, ◌++◌, length, drop, slice_get, Option, Some, None, refl, sym, ap, subst, ◌∙◌, ◌⊎◌, inl, inr, ⊎_elim, arith, option_map_or, option_or, cases_eq, get_or-set_same, get_or-set_other, ControlFrame, Given, GoesWhole, Config, next, Line, UnitData, link_count, place_at, tei_at, terms_at, link_at, Taken, with_unit}
+use Rattle.laws_line.proofs.Vocabulary.{with_given_frame, link_taken, first_taken, round, taken, line_of, IsInRange, option_map, after, IsSound, IsInTurn, way_round, frames_before, control_text, link_given, nat_le, leb-true}
 use Rattle.std.proofs.lemmas.Option.{same_Some}
 use Rattle.laws_line.proofs.Vocabulary.{IfSome, Management, Own, GoesOut, HasNothing, message_taken, message_walk, without_message}
 use Rattle.laws_line.proofs.InTurn.{links_take_turns}

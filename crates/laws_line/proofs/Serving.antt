@@ -8,7 +8,7 @@ use Rattle.model_teis.specs.network.Events as teis
 use Rattle.model_teis.specs.network.Messages as messages
 use Rattle.model_teis.specs.terminal.Events as terminals
 use Rattle.laws_line.proofs.Vocabulary.{inl, inr, expiry, Bool, true, HasNoMessage, IsOfSide, IsUnused, Message, OwnMessage, own_frame_of, is_terminal, terminal_in, unit_taken, with_message, with_own_message, at_management, at_terminal, TeiEvent, TerminalEvent, Change, LineTold, of_aim, of_change, of_management, of_network, of_terminal, of_terminal_if, at_a_terminal, told_of_management}
-use Rattle.laws_line.proofs.Vocabulary.{tei_told, tei_after, terminal_told, terminal_after, with_terminal, without_units, down, AskTei, VerifyTei}
+use Rattle.laws_line.proofs.Vocabulary.{tei_told, tei_after, terminal_told, terminal_after, with_terminal, without_units, down}
 use Rattle.laws_line.proofs.Among.{by-aim}
 
 -- the first of a list is not there

@@ -1,7 +1,7 @@
 -- Contents that an answer hands on are noted once.
-use Rattle.laws_line.proofs.Vocabulary.{◌≡◌, ℕ, ◌+◌, false, cond, List, [], ◌∷◌, length, Option, Some, None, option_to_list, refl, ◌⊎◌, arith, count_by, option_or, sum_by-cons, sum_by-append, Note, Refusal, Service, Timer, Terms, LinkTimer, Link, is_data, is_unit, event-tells, Change, place_of-is, Config, request, hears, next, Aim, at_link, at_management, told_of_management, of_change, of_aim}
+use Rattle.laws_line.proofs.Vocabulary.{◌≡◌, ℕ, ◌+◌, false, cond, List, [], ◌∷◌, length, Option, Some, None, option_to_list, refl, ◌⊎◌, arith, count_by, option_or, sum_by-cons, sum_by-append, Note, Refusal, Service, Timer, Terms, LinkTimer, Link, is_data, is_unit, event-tells, Change, place_of-is, Config, request, hears, next, Aim, at_link, at_management, of_change, of_aim}
 use Rattle.laws_line.proofs.Vocabulary.{at_timer, aim_of_expiry, Line, place_in, link_in, terms, unless_refused_told, aim_of_heard, Request, Establish, Release, Assign, Remove, SetBusy, ClearBusy, Deactivate, at_requested, aim_of_request, IsInRange, sound_in, heard_aims, Down, Event, expiry, answer, unless_refused, refusal, Data, Unit, Check, IsSound, tells_contents, IsNotedOnce, link_received}
-use Rattle.laws_line.proofs.Vocabulary.{LinkEstablish, LinkRelease, link_expired, LinkClearBusy, link_requested, LinkRequest, LinkData, link_cleared, LinkSetBusy, LinkEvent, link_told, StreamEvent, message, tei_told, check, disown, tei_after, remove, assigning, TeiEvent, Disown}
+use Rattle.laws_line.proofs.Vocabulary.{LinkEstablish, LinkRelease, link_expired, LinkClearBusy, link_requested, LinkRequest, LinkData, link_cleared, LinkSetBusy, LinkEvent, link_told, StreamEvent, message, check, disown, remove, assigning, TeiEvent, Disown}
 use Rattle.model_link.specs.Sound as link_sound
 use Rattle.laws_link.proofs.Once as link_once
 use Rattle.laws_line.proofs.Vocabulary.{ap, T201, T202, AskTei, VerifyTei, Management, Own, Effect, LineTold, IsProper, IsOwnEvent, request_proper, at_terminal, TerminalEvent, asking, verifying, terminal_expiry, tei_expiry}

@@ -1,21 +1,21 @@
 -- Worked values: a terminal that asks for a TEI, establishes a link, answers a check, and loses its TEI.
-use Rattle.std.specs.Prelude.{◌≡◌, ℕ, true, List, [], ◌∷◌, Option, Some, None, option_map, refl}
+use Rattle.std.specs.Prelude.{◌≡◌, ℕ, true, List, [], ◌∷◌, Option, Some, None, refl}
 use Rattle.lapd_frame.specs.declared.addresses.Side.TheVariants.{User}
 use Rattle.lapd_frame.specs.declared.notes.Note.{Note}
 use Rattle.lapd_frame.specs.declared.notes.Note.TheVariants.{Assigned, Removed, Unassigned, ReleaseIndication}
 use Rattle.lapd_frame.specs.declared.refusals.Refusal.TheVariants.{WrongSide, CheckRunning}
 use Rattle.lapd_frame.specs.declared.services.Service.TheVariants.{Call}
 use Rattle.lapd_frame.specs.declared.timers.Order.{Order}
-use Rattle.lapd_frame.specs.declared.timers.Order.TheVariants.{Start, Stop}
-use Rattle.lapd_frame.specs.declared.timers.Timer.TheVariants.{T200, T202}
+use Rattle.lapd_frame.specs.declared.timers.Order.TheVariants.{Start}
+use Rattle.lapd_frame.specs.declared.timers.Timer.TheVariants.{T202}
 use Rattle.model_bits.specs.Stream as stream
 unfoldable use Rattle.lapd_frame.specs.Reading.{reading, header_of, control_of, unnumbered_of}
 unfoldable use Rattle.lapd_frame.specs.Senders.{exchanged, reading as read_by}
 use Rattle.model_teis.specs.network.Events as teis
 use Rattle.model_teis.specs.terminal.Events as terminals
 use Rattle.model_line.specs.declared.config.Config.{Config}
-use Rattle.model_line.specs.Event.{Event, hears, expiry, request, next, Answer, told, refused, gave, NextFrame}
-use Rattle.model_line.specs.Request.{AskTei, VerifyTei, Check, Establish, Remove}
+use Rattle.model_line.specs.Event.{Event, hears, expiry, request, next, Answer, told, refused, gave}
+use Rattle.model_line.specs.Request.{AskTei, Check, Establish}
 use Rattle.model_line.specs.Line.{Line, fresh_line, has_tei}
 unfoldable use Rattle.model_line.specs.Machine.{after, answer}
 use Rattle.model_line.specs.Usual.{usual}

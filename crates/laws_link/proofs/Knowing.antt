@@ -1,5 +1,5 @@
 -- What layer 3 is told is what becomes of the link: every row keeps that.
-use Rattle.laws_link.proofs.Vocabulary.{arith, ◌≡◌, ℕ, Bool, true, false, List, [], ◌∷◌, refl, ◌∙◌, ap, not, ◌++◌, Note, ErrorCode, State, TeiAssigned, AwaitingEstablishment, Established, T203, Terms, Link, is_asked, has_outstanding, Course, Step, ◌then◌, nothing, depending_on, Leads, keeping_then, nothing_leads, depending_leads, bit_leads, read_leads, tested_leads, to_less, seen, known, is_up_in}
+use Rattle.laws_link.proofs.Vocabulary.{arith, ◌≡◌, ℕ, Bool, true, false, List, [], ◌∷◌, refl, ◌∙◌, not, ◌++◌, Note, ErrorCode, State, TeiAssigned, AwaitingEstablishment, Established, T203, Terms, is_asked, has_outstanding, Course, Step, ◌then◌, nothing, depending_on, Leads, keeping_then, nothing_leads, depending_leads, bit_leads, read_leads, tested_leads, to_less, seen, known}
 use Rattle.laws_link.proofs.Vocabulary.{leaves}
 use Rattle.laws_link.proofs.Vocabulary.{number_leads, asked_is, deliver, deliver_unit, discard, enter, establish_confirm, establish_indication, no_timer, note, release_confirm, release_indication, start, zero_numbers, failed}
 

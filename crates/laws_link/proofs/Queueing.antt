@@ -1,5 +1,5 @@
 -- The contents of a link, its numbers, and what its notes tell of them: most words of the tables leave them.
-use Rattle.laws_link.proofs.Vocabulary.{arith, ◌≡◌, ℕ, Bool, false, List, [], ◌∷◌, ◌++◌, Option, refl, subst, sym, list_any-append, Note, Terms, Course, Leads, keeping_then, nothing_leads, depending_leads, bit_leads, read_leads, is_loss, tells_loss, leaves, deliver, note}
+use Rattle.laws_link.proofs.Vocabulary.{arith, ◌≡◌, ℕ, Bool, false, List, Option, refl, subst, sym, list_any-append, Note, Terms, Course, Leads, keeping_then, nothing_leads, depending_leads, bit_leads, read_leads, is_loss, tells_loss, leaves, deliver, note}
 
 -- A claim on the contents, on V(A) and V(S), on whether the notes tell a loss, on whether the numbers began anew, on what
 -- unit data is told, and on how many contents are given up.

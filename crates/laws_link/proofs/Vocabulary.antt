@@ -5,7 +5,7 @@ pub use Rattle.std.proofs.Common.{◌≤◌, ◌⊎◌}
 pub use Rattle.std.proofs.Math.Seq.{take-length}
 pub use Rattle.std.proofs.lemmas.Bool.{and_parts, and_right, cases_lt, eqb-false, false_from_ne_true, le-leb, le-ltb, leb-false, leb-true, lt-ltb, ltb-false, ltb-true, or_parts, true_from_ne_false}
 pub use Rattle.std.proofs.lemmas.List.{drop-append-le, drop_all, take_all}
-pub use Rattle.std.proofs.lemmas.List.Elements.{All-cons, All-head, All-nil, All-tail}
+pub use Rattle.std.proofs.lemmas.List.Elements.{All-head, All-tail}
 pub use Rattle.std.proofs.lemmas.List.Folds.{list_any-append}
 pub use Rattle.std.proofs.lemmas.List.Sums.{sum_by-cons, sum_by_push}
 pub use Rattle.std.proofs.lemmas.Option.{none-some, slice_get-get_or}
@@ -21,7 +21,6 @@ pub use Rattle.lapd_frame.specs.declared.notes.Note.{Note}
 pub use Rattle.lapd_frame.specs.declared.refusals.Refusal.{Refusal}
 pub use Rattle.lapd_frame.specs.declared.refusals.Refusal.TheVariants.{WrongState}
 pub use Rattle.lapd_frame.specs.declared.timers.Order.{Order}
-pub use Rattle.lapd_frame.specs.declared.timers.Timer.{Timer}
 pub use Rattle.lapd_seq.proofs.Callers.{distance-plain, is_seq, seq-value}
 unfoldable pub use Rattle.lapd_seq.specs.Circle.{distance_of, named}
 unfoldable pub use Rattle.lapd_seq.specs.Numbers.{seq}
@@ -30,10 +29,10 @@ pub use Rattle.model_link.proofs.Delivering.{event-delivers}
 pub use Rattle.model_link.proofs.Direction.{frames-append, frames_of, line_of}
 pub use Rattle.model_link.proofs.Joined.{Joined, done-at, ends-agree, joined-first, joined-turned}
 pub use Rattle.model_link.proofs.Kept.{Fits, FitsEvent, Kept}
-pub use Rattle.model_link.proofs.Leads.{Leads, Passed, bit_leads, both_ways, depending_leads, from_more, keeping_then, leaves, nothing_leads, number_leads, read_leads, tested_leads, then_leads, to_less, told_ways}
+pub use Rattle.model_link.proofs.Leads.{Leads, bit_leads, both_ways, depending_leads, from_more, keeping_then, leaves, nothing_leads, number_leads, read_leads, tested_leads, then_leads, to_less, told_ways}
 pub use Rattle.model_link.proofs.Lines.{Means, Piece, rising-low}
 pub use Rattle.model_link.proofs.Numbering.{delivered-at_once}
-pub use Rattle.model_link.proofs.Rows.{event_row, every_event, frame_row}
+pub use Rattle.model_link.proofs.Rows.{event_row, frame_row}
 pub use Rattle.model_link.proofs.SoundEvents.{sound-after, sound-all, sound-fresh}
 pub use Rattle.model_link.proofs.SoundRows.{named-within}
 pub use Rattle.model_link.proofs.TellRows.{event-tells}
@@ -42,31 +41,31 @@ pub use Rattle.model_link.specs.AwaitingRelease.{frame_in_6}
 pub use Rattle.model_link.specs.Deliveries.{Arrived, Establishes, IsEstablished, MayEstablish, eligible_of, information_in, information_of, restarts}
 pub use Rattle.model_link.specs.Events.{ClearBusy, Data, Establish, Event, Release, Request, SetBusy, cleared, expired, frame, offer, overlong, received, requested, undefined, wrong_size}
 pub use Rattle.model_link.specs.Link.{Link, address_at, frame_of, fresh, has_outstanding, is_asked, is_multiple_frame, is_peer_busy, may_repeat}
-pub use Rattle.model_link.specs.Machine.{after, course, expire_running, expired_in, expired_step, frame_in, frame_step, given, given_of, is_running, malformed_in, step, told, told_of_clearing}
+pub use Rattle.model_link.specs.Machine.{after, course, expire_running, expired_in, expired_step, frame_in, frame_step, given, given_of, is_running, malformed_in, told, told_of_clearing}
 unfoldable pub use Rattle.model_link.specs.Machine.{after_all}
 pub use Rattle.model_link.specs.Notes.{is_data, is_unit}
 pub use Rattle.model_link.specs.Offers.{first_unsent, give_information, give_waiting, is_awaiting_acknowledgement, is_established, may_send_information, next_information, offer_among, offer_step, send_acknowledgement, with_one_sent}
 pub use Rattle.model_link.specs.Sound.{IsInRange, IsSettledIn, IsSound, IsWaitingFrame, is_information}
 pub use Rattle.model_link.specs.Steps.{Course, Sent, Step, begun, by_bit, changed, depending_on, nothing, ◌then◌}
 pub use Rattle.model_link.specs.TeiAssigned.{establish_in_4, frame_in_4, release_in_4}
-pub use Rattle.model_link.specs.Told.{orders_for, runs, timer_at}
+pub use Rattle.model_link.specs.Told.{orders_for, runs}
 pub use Rattle.model_link.specs.TwoEnds.{Step as EndStep, Agree, Begins, StepAt, Endpoint, Ends, IsUp, acting, requests, at_far, at_near, doing, expires, frame_given, loses, receives, sends, turned, without_first, with_first_of, with_link, with_sent}
 unfoldable pub use Rattle.model_link.specs.TwoEnds.{StayUp, doing_all}
-pub use Rattle.model_link.specs.Words.{acknowledge, answer, asked_is, begin_anew, by_number, clear_flags, command, deliver, deliver_unit, discard, enquire, enter, error, establish_confirm, establish_indication, has_room, leave_unserved, no_timer, note, own_busy_is, peer_busy_is, pending_is, re_establish, rr_or_rnr, release_confirm, release_indication, repeated, report_receiver_status, response}
+pub use Rattle.model_link.specs.Words.{acknowledge, answer, asked_is, begin_anew, by_number, clear_flags, command, deliver, deliver_unit, discard, enter, error, establish_confirm, establish_indication, has_room, leave_unserved, no_timer, note, own_busy_is, peer_busy_is, pending_is, re_establish, rr_or_rnr, release_confirm, release_indication, report_receiver_status, response}
 pub use Rattle.model_link.specs.Words.{with_counted, with_next_sent}
 pub use Rattle.model_link.specs.Counts.{with_expiry, with_information_sent, with_reject_received}
 pub use Rattle.model_link.specs.declared.counts.LinkCounts.{LinkCounts}
-pub use Rattle.model_link.specs.Words.{malformed as malformed_down, read_as, send, send_again_from, start, unit_data, zero_numbers}
+pub use Rattle.model_link.specs.Words.{malformed as malformed_down, read_as, send, start, unit_data, zero_numbers}
 pub use Rattle.model_link.specs.declared.frames.ControlFrame.{ControlFrame}
 pub use Rattle.model_link.specs.declared.states.State.{State}
 pub use Rattle.model_link.specs.declared.states.State.TheVariants.{AwaitingEstablishment, AwaitingRelease, Established, TeiAssigned, TimerRecovery}
 pub use Rattle.model_link.specs.declared.terms.Terms.{Terms}
 pub use Rattle.model_link.specs.declared.timers.LinkTimer.{LinkTimer}
 pub use Rattle.model_link.specs.declared.timers.LinkTimer.TheVariants.{T200, T203}
-pub use Rattle.model_link.specs.Established.{acknowledged_by_information_in_7, acknowledged_by_rej_in_7, acknowledged_by_rnr_in_7, acknowledged_in_7, frame_in_7, is_all_sent, particulars_in_7, unsolicited}
+pub use Rattle.model_link.specs.Established.{acknowledged_by_information_in_7, acknowledged_by_rej_in_7, acknowledged_by_rnr_in_7, acknowledged_in_7, frame_in_7, unsolicited}
 pub use Rattle.model_link.specs.MultipleFrame.{answered, clear_busy_in_7_8, contents_in_7_8, failed, information_in_7_8, is_final, long_unit_in_7_8, set_busy_in_7_8, supervisory}
 pub use Rattle.model_link.specs.Requests.{granted, refusal, release_in}
-pub use Rattle.model_link.specs.TimerRecovery.{acknowledged_in_8, frame_in_8, particulars_in_8, recovered, solicited}
+pub use Rattle.model_link.specs.TimerRecovery.{acknowledged_in_8, frame_in_8, recovered, solicited}
 pub use Rattle.laws_link.specs.Accepted.{acknowledged_by, beyond, contents_asked, is_loss, is_release, number_of, tells_loss}
 pub use Rattle.laws_link.specs.Effects.{IsReleasedIn, TakesEffect}
 pub use Rattle.laws_link.specs.Flags.{asked_left, flag_left, owed_behind, owed_in, own_busy_left, peer_busy_left, rejecting_heard, repeats_left, takes_contents, unless_put}
@@ -80,7 +79,7 @@ pub use Rattle.laws_link.specs.Samples.{sabme, up, usual_terms}
 pub use Rattle.laws_link.specs.Sending.{MayGo}
 pub use Rattle.laws_link.specs.States.{as_heard, numbers_begin, state_after}
 pub use Rattle.laws_link.specs.Telling.{told_with}
-pub use Rattle.model_link.specs.Timed.{ComesInStep, IsTimed, IsTimedIn, StaysInStep, is_same, obeyed}
+pub use Rattle.model_link.specs.Timed.{IsTimed, IsTimedIn}
 pub use Rattle.laws_link.specs.Waiting.{answers, commands, put, waiting_left}
 pub use Rattle.laws_link.specs.two.Ahead.{IsAhead, KeepsLinksUp, KeepsLinkUp, IsNotRelease}
 unfoldable pub use Rattle.laws_link.specs.two.Ahead.{StayAhead}

@@ -1,5 +1,5 @@
 -- Two cards whose links face each other: where anything that happens at one of them leads.
-use Rattle.laws_order.proofs.Vocabulary.{arith, ◌≡◌, ℕ, Bool, true, false, cond, List, [], ◌∷◌, ◌++◌, drop, Result, Ok, Err, refl, sym, ap, ◌∙◌, subst, append-nil, ◌⊎◌, inl, inr, get_or-set_other, ReadFault, Service, Parts, other_side, reading, Link, LinkEndpoint, Joined, joined-turned, done-at, came, Config, hears, expiry, request, next, heard_side, link_of, line_at, after_is_sound, by_room}
+use Rattle.laws_order.proofs.Vocabulary.{arith, ◌≡◌, ℕ, Bool, true, false, cond, List, [], ◌∷◌, ◌++◌, drop, Result, Ok, Err, refl, sym, ap, ◌∙◌, subst, append-nil, ◌⊎◌, inl, inr, get_or-set_other, ReadFault, Service, Parts, reading, Link, LinkEndpoint, Joined, joined-turned, done-at, came, Config, hears, expiry, request, next, heard_side, link_of, line_at, after_is_sound, by_room}
 use Rattle.laws_order.proofs.Vocabulary.{Seen, seen, Endpoint, Wire, requests, expires, sends, receives, loses, answered, happens, without_first, Event, is_of_link, of_link_in, of_link_at, AnyStep, step, disturbed, elsewhere, IsNotOf, IsElsewhere, IsPossibleAt, elsewhere_on, any_acting, seen_by, data_noted, data_granted, of_link_on, stream_frame, StreamEvent, FramesEvent, link_frame, LinkEvent}
 use Rattle.laws_order.proofs.Vocabulary.{requested, offer, expired, received, nat_lt, at, frame_comes, own_side}
 use Rattle.model_link.specs.TwoEnds as two

@@ -1,5 +1,5 @@
 -- The far end lasts in its establishment, and that of the near end is over: what happens at the near end.
-use Rattle.laws_order.proofs.Vocabulary.{arith, ◌≡◌, ℕ, ◌+◌, ◌≤◌, false, IsTrue, List, [], ◌∷◌, ◌++◌, length, take, sym, ap, ◌∙◌, subst, true≢false, ◌⊎◌, Control, Service, Parts, other_side, reading, State, Link, is_multiple_frame, frames_of, came, Config, hears, expiry, request, next, heard_side, link_of, terms, after_is_sound, Endpoint, Wire, requests, expires, sends, receives, loses, happens}
+use Rattle.laws_order.proofs.Vocabulary.{arith, ◌≡◌, ℕ, ◌+◌, ◌≤◌, false, IsTrue, List, [], ◌∷◌, ◌++◌, length, take, sym, ap, ◌∙◌, subst, true≢false, ◌⊎◌, Control, Service, Parts, reading, State, Link, is_multiple_frame, frames_of, came, Config, hears, expiry, request, next, heard_side, link_of, terms, after_is_sound, Endpoint, Wire, requests, expires, sends, receives, loses, happens}
 use Rattle.laws_order.proofs.Vocabulary.{Event, of_link_at, AnyStep, step, disturbed, elsewhere, IsElsewhere, IsPossibleAt, elsewhere_on, any_acting, of_link_on, stream_frame, FramesEvent, at, own_side}
 use Rattle.laws_order.proofs.Down.{Speaks}
 use Rattle.laws_order.proofs.Lasting.{Calls, calls-report, calls-plain, speaks-answered, speaks-unheeded, Brought, brought-tail, brought-front, brought-more, brought-plain}

@@ -1,5 +1,5 @@
 -- The far end lasts in its establishment, and that of the near end is over: what happens at the far end.
-use Rattle.laws_order.proofs.Vocabulary.{◌≡◌, ℕ, ◌+◌, ◌≤◌, cond, IsTrue, List, [], ◌∷◌, ◌++◌, length, take, Option, None, refl, sym, ap, ◌∙◌, subst, append-nil, true≢false, inl, inr, arith, option_to_list, Seq, seq, is_seq, Control, Information, ReceiveReady, ReceiveNotReady, Reject, Service, Parts, other_side, State, Terms, Link, is_multiple_frame, frames_of, Means, frame-taken, came, hears}
+use Rattle.laws_order.proofs.Vocabulary.{◌≡◌, ℕ, ◌+◌, ◌≤◌, cond, IsTrue, List, [], ◌∷◌, ◌++◌, length, take, Option, None, refl, sym, ap, ◌∙◌, subst, append-nil, true≢false, inl, inr, arith, option_to_list, Seq, seq, is_seq, Control, Information, ReceiveReady, ReceiveNotReady, Reject, Service, Parts, State, Terms, Link, is_multiple_frame, frames_of, Means, frame-taken, came, hears}
 use Rattle.laws_order.proofs.Vocabulary.{expiry, request, next, link_of, terms, after_is_sound, Seen, seen, offer-tells_nothing, frames_given, Endpoint, Wire, requests, expires, sends, receives, loses, answered, happens, frames_by, turned, sides-turned, flat_map-append, Event, of_link_in, of_link_at, AnyStep, step, disturbed, elsewhere, IsElsewhere, IsPossibleAt, elsewhere_on, any_acting, seen_by}
 use Rattle.laws_order.proofs.Vocabulary.{data_noted, StaysEstablished, of_link_on, FramesEvent, link_frame, LinkEvent, cleared, requested, offer, expired, received, after, course, told, at, event-delivers, none-delivered, timer-delivers, own_side, heard_side}
 use Rattle.laws_order.proofs.Does.{Has, Does, IsKind}

@@ -1,5 +1,5 @@
 -- Whole runs of two cards whose links face each other.
-use Rattle.laws_order.proofs.Vocabulary.{arith, ◌≡◌, ℕ, suc, ◌≤◌, false, List, [], ◌∷◌, ◌++◌, take, drop, refl, sym, ap, ◌∙◌, subst, append-nil, append_assoc, true≢false, ◌⊎◌, inl, inr, All, list_any, All-nil, All-cons, All-head, All-tail, list_any-append, Service, other_side, Link, is_multiple_frame, joined-turned, rising-low, terms, Seen, IsFront, Endpoint, Wire, turned, sides-turned}
+use Rattle.laws_order.proofs.Vocabulary.{arith, ◌≡◌, ℕ, suc, ◌≤◌, false, List, [], ◌∷◌, ◌++◌, take, drop, refl, sym, ap, ◌∙◌, subst, append-nil, append_assoc, true≢false, ◌⊎◌, inl, inr, All, list_any, All-nil, All-cons, All-head, All-tail, list_any-append, Service, Link, is_multiple_frame, joined-turned, rising-low, terms, Seen, IsFront, Endpoint, Wire, turned, sides-turned}
 use Rattle.laws_order.proofs.Vocabulary.{flat_map-append, AnyStep, any_acting, AnyStepAt, any_near, any_far, IsPossible, seen_by, seen_near, seen_far, noted_in, data_noted, data_granted, ends_by, StaysEstablished, Past, known, FaceInStep, kept_by, DeliveredInOrder, or_parts}
 use Rattle.model_link.proofs.Direction.{line_of}
 use Rattle.laws_order.proofs.Beginning.{had, begins-pair, kept-is}

@@ -1,5 +1,5 @@
 -- Two cards whose links face each other: what each thing that happens makes of the two ends.
-use Rattle.laws_order.proofs.Vocabulary.{◌≡◌, ℕ, ◌<◌, ◌==◌, ◌&&◌, not, Bool, true, false, cond, IsTrue, List, [], ◌∷◌, ◌++◌, map, get_or, set, Option, Some, None, IfSome, refl, sym, ap, ◌∙◌, subst, arith, append-nil, eq-eqb, true≢false, inl, inr, All, option_to_list, unwrap_or, list_any, option_map_or, get_or-set_same, All-nil, All-cons, All-head, PoolFull, Service, Parts, other_side, sapi_of}
+use Rattle.laws_order.proofs.Vocabulary.{◌≡◌, ℕ, ◌<◌, ◌==◌, ◌&&◌, not, Bool, true, false, cond, IsTrue, List, [], ◌∷◌, ◌++◌, map, get_or, set, Option, Some, None, IfSome, refl, sym, ap, ◌∙◌, subst, arith, append-nil, eq-eqb, true≢false, inl, inr, All, option_to_list, unwrap_or, list_any, option_map_or, get_or-set_same, All-nil, All-cons, All-head, PoolFull, Service, Parts, sapi_of}
 use Rattle.laws_order.proofs.Vocabulary.{reading-again, place_of-is, Terms, LinkTimer, Link, is_multiple_frame, frame_of, Given, LinkEndpoint, with_link, with_sent, frame_given, frames_of, given_is_frame, Joined, done-at, Means, Rising, Config, Line, fresh_line, link_in, link_of, place_in, terms, sound_in, terms_in_range, line_at, has_lines, by_room, accepted, Seen, seen, is_ui}
 use Rattle.laws_order.proofs.Vocabulary.{offer-tells_nothing, frames_given, Endpoint, Wire, answered, happens, frames_by, flat_map-append, fresh, Event, at, is_of_link, of_link_in, of_link_at, data_noted, data_granted, ends_by, of_link_on, line_of, is_some, Refusal, State, Release, SetBusy, ClearBusy, received, expired, requested, offer, Course, Up, still, set_busy_up, clear_busy_up, at-first}
 use Rattle.laws_order.proofs.Vocabulary.{offer-gave, frame-taken, after, begun, contents_asked, LinkEvent, LinkRequest, told, link_given, own_side, heard_side}

@@ -1,5 +1,5 @@
 -- The premises of the law are met by the worked run.
-use Rattle.laws_order.proofs.Vocabulary.{◌≡◌, ℕ, ◌<◌, true, List, [], ◌∷◌, ◌++◌, refl, sym, ap, ◌∙◌, arith, All, list_any, leb-true, All-nil, All-cons, User, Network, Service, Call, Packet, other_side, exchanged, reading, side_reading, header_of, control_of, unnumbered_of, supervisory_of, distance_of, named, seq, Assign, request, IsFront, calling, Wire, requests, at, step, IsElsewhere, AnyStepAt}
+use Rattle.laws_order.proofs.Vocabulary.{◌≡◌, ℕ, true, List, [], ◌∷◌, ◌++◌, refl, sym, arith, All, list_any, leb-true, All-nil, All-cons, Service, Call, Packet, exchanged, reading, side_reading, header_of, control_of, unnumbered_of, supervisory_of, distance_of, named, seq, Assign, request, IsFront, calling, Wire, requests, at, step, IsElsewhere, AnyStepAt}
 use Rattle.laws_order.proofs.Vocabulary.{◌≤◌, any_near, any_far}
 use Rattle.laws_order.proofs.Vocabulary.{IsPossible, any_doing_all, seen_near, seen_far, t200s, IsToldAtLast, IsNotDeactivated, data_noted, data_granted, ends_by, known, IsInStep, FaceInStep, kept_by, StaysEstablished, IsToldOfRelease, NoCall, IsNotCalled, called as is_rung, Profile, NoteReleaseConfirm, subst, news, tei_refusal, tei_course, releases, released, takes_two, far_lasts, awaits}
 use Rattle.laws_order.proofs.Vocabulary.{both_release, both_begin_nothing, own_side, heard_side}

@@ -1,8 +1,8 @@
 -- The words of std, of the crates below and of the statements of this crate with which its proofs speak: those of `laws_wire` from its own
 -- vocabulary, the others from where they are defined.
 pub use Rattle.laws_wire.proofs.Vocabulary.{All-append, All-cons, All-head, All-nil, All-tail, Assign, AwaitingEstablishment, AwaitingRelease, Call, Card, Config, Control, ControlFrame, Course, Data, LinkEndpoint, ErrorCode, Establish, Given, Joined, LinkTimer, Note, Packet, Parts, PoolFull, Refusal, Request, Seq, Service, State, T200, TeiAssigned, Terms, TimerRecovery, and_parts, at-first, begun}
-pub use Rattle.laws_wire.proofs.Vocabulary.{came, done-at, event-delivers, event-follows, flat_map-append, frame_given, given_is_frame, heard_side, is_granted, joined-turned, le-ltb, leb-true, line_at, link-grants, list_any, list_any-append, ltb-false, ltb-true, network, next_of, offer-gave, option_map_or, or_parts, other_side, place_of-is, reading-again, sapi_of, sound_in, taken, terms_in_range}
-pub use Rattle.laws_wire.proofs.Vocabulary.{Sender, own_side, user, with_link, with_sent}
+pub use Rattle.laws_wire.proofs.Vocabulary.{came, done-at, event-delivers, event-follows, flat_map-append, frame_given, given_is_frame, heard_side, is_granted, joined-turned, le-ltb, leb-true, line_at, link-grants, list_any, list_any-append, ltb-false, ltb-true, network, next_of, offer-gave, option_map_or, or_parts, place_of-is, reading-again, sapi_of, sound_in, taken, terms_in_range}
+pub use Rattle.laws_wire.proofs.Vocabulary.{own_side, user, with_link, with_sent}
 unfoldable pub use Rattle.laws_wire.proofs.Vocabulary.{control_of, distance_of, exchanged, header_of, named, reading, side_reading, seq, supervisory_of, tei_course, tei_refusal, unnumbered_of}
 pub use Rattle.std.proofs.Common.{Bool, Err, IfSome, IsTrue, List, None, Ok, Option, Result, Some, [], ap, append-nil, append_assoc, arith, cond, drop, eq-eqb, eqb-true, false, get_or, inl, inr, is_some, length, length-append, length-drop, map, nat_lt, not, option_and_then, option_map, option_to_list, refl, reverse, set, subst, suc, sym, take, true, true≢false, zero, ℕ, ◌%◌, ◌&&◌, ◌*◌, ◌++◌, ◌+◌}
 pub use Rattle.std.proofs.Common.{◌-◌, ◌<◌, ◌==◌, ◌||◌, ◌∙◌, ◌∷◌, ◌≡◌, ◌≤◌, ◌⊎◌}
@@ -10,13 +10,11 @@ pub use Rattle.std.proofs.lemmas.List.{append_cancel_left, drop-drop, get_or-rep
 pub use Rattle.std.proofs.lemmas.List.Sums.{fold-append}
 pub use Rattle.std.proofs.lemmas.Option.{slice_get_within}
 pub use Rattle.std.specs.Prelude.{All, filter, flat_map, fold, if◌then◌else◌, min, slice_get, unwrap_or}
-pub use Rattle.lapd_frame.specs.declared.addresses.Side.TheVariants.{Network, User}
 pub use Rattle.lapd_frame.specs.declared.controls.Control.TheVariants.{Disc, Dm, Information, ReceiveNotReady, ReceiveReady, Reject, Sabme, Ua, Ui}
 pub use Rattle.lapd_frame.specs.declared.faults.ReadFault.{ReadFault}
 pub use Rattle.lapd_frame.specs.declared.notes.ErrorCode.TheVariants.{H}
 pub use Rattle.lapd_frame.specs.declared.notes.Note.TheVariants.{Assigned as NoteAssigned, Data as NoteData, Doubled as NoteDoubled, Error as NoteError, EstablishConfirm as NoteEstablishConfirm, EstablishIndication as NoteEstablishIndication, ReleaseConfirm as NoteReleaseConfirm, ReleaseIndication as NoteReleaseIndication, Removed as NoteRemoved, Unit as NoteUnit, Xid as NoteXid}
 pub use Rattle.lapd_seq.proofs.Callers.{is_seq}
-pub use Rattle.model_teis.specs.network.Messages.{information_of}
 pub use Rattle.laws_line.proofs.Granting.{not-refused}
 pub use Rattle.laws_line.proofs.Hearing.{same-sapi, sapi-is}
 pub use Rattle.laws_line.proofs.Knowing.{known-up}
@@ -31,7 +29,7 @@ pub use Rattle.laws_line.specs.Steady.{IsBy, timer_of}
 pub use Rattle.model_link.proofs.TimedRows.{timed-after}
 pub use Rattle.laws_link.specs.Accepted.{accepted, acknowledged, contents_asked, empties}
 pub use Rattle.laws_link.specs.Known.{is_up_in}
-pub use Rattle.laws_link.specs.States.{as_heard, by_frame, by_received, by_request, is_faulty, is_invalid, receipt_of, state_after, is_overlong}
+pub use Rattle.laws_link.specs.States.{as_heard, by_frame, by_request, is_faulty, is_invalid, receipt_of, state_after, is_overlong}
 pub use Rattle.laws_link.specs.Steady.{is_anew}
 pub use Rattle.laws_link.specs.Telling.{error, told_by, told_by_frame, told_cleared, told_malformed}
 pub use Rattle.laws_link.specs.Waiting.{answers, commands, put, receipt_as, room}
@@ -64,7 +62,7 @@ pub use Rattle.laws_wire.proofs.Answered.{asks-way, gives-taken, takes-way}
 pub use Rattle.laws_wire.proofs.Delivering.{calls-face, is-established, is-quiet, is-sound}
 pub use Rattle.laws_wire.proofs.RestedRounds.{doing-append}
 pub use Rattle.laws_wire.proofs.Run.{calls-come-through, or-both}
-pub use Rattle.laws_wire.proofs.Spelled.{came-whole, sides-turned, twice-other}
+pub use Rattle.laws_wire.proofs.Spelled.{came-whole, sides-turned}
 pub use Rattle.laws_wire.specs.Call.{CanCall, IsCall, assigned, calling, confirmed, data_told, endpoint, told_first, ComesThrough as CallComesThrough}
 unfoldable pub use Rattle.laws_wire.specs.Call.{both_call as call_both_call}
 pub use Rattle.laws_wire.specs.Facing.{Face, Speaks, line_of}
@@ -115,10 +113,10 @@ unfoldable pub use Rattle.laws_order.specs.AnySteps.{any_doing_all, seen_far, se
 pub use Rattle.laws_order.specs.InTheEnd.{BothAreTold, IsNotDeactivated, IsToldAtLast, ReleasesAreTold, is_t200, t200_by}
 unfoldable pub use Rattle.laws_order.specs.InTheEnd.{StaysThere, t200s}
 pub use Rattle.laws_order.specs.Order.{AreOfStep, DeliveredInOrder, FaceInStep, IsInStep, IsToldInOrder, Known, Past, StaysEstablished, Tally, data_granted, data_noted, ends_by, ends_by_note, ends_by_request, kept_by, known, no_tally, noted_in, of_link_on, said_by, state_here, tallies, tally_of}
-pub use Rattle.laws_order.specs.Release.{BeginsNothing, IsNotCalled, IsToldOfRelease, NoCall, ReleasedIsOver, ReleasesEnd, begins_by, begins_by_note, called_by, is_called, is_in_4, is_news, is_plain_dm, news, news_in}
+pub use Rattle.laws_order.specs.Release.{BeginsNothing, IsNotCalled, IsToldOfRelease, NoCall, ReleasedIsOver, ReleasesEnd, begins_by, begins_by_note, is_called, is_in_4, is_news, is_plain_dm, news, news_in}
 unfoldable pub use Rattle.laws_order.specs.Release.{called}
 pub use Rattle.lapd_frame.specs.declared.readings.Reading.{Reading}
-pub use Rattle.lapd_frame.specs.declared.readings.Reading.TheVariants.{Profile, AnnexB}
+pub use Rattle.lapd_frame.specs.declared.readings.Reading.TheVariants.{Profile}
 pub use Rattle.laws_trace.specs.News.{brings}
 pub use Rattle.laws_order.specs.circuit.Beats.{AllIsToldInBeats, IsToldAll, beat, enough_beats, granted_of, longest}
 unfoldable pub use Rattle.laws_order.specs.circuit.Beats.{beats}

@@ -1,6 +1,6 @@
 //! The call of a card that runs a list of events, with all that is promised of it.
 
-ghost use Rattle.std.specs.Prelude.{◌≡◌, ◌<◌, All};
+ghost use Rattle.std.specs.Prelude.{◌<◌, All};
 ghost use Rattle.model_line.specs.Event as line_event;
 ghost use Rattle.model_line.specs.Request.{request_of};
 ghost use Rattle.model_card.specs.Event.{at};

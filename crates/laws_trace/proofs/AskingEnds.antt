@@ -5,7 +5,7 @@ use Rattle.laws_trace.proofs.Vocabulary.{fresh, CardEvent as Event, after, card_
 use Rattle.model_teis.specs.declared.terminal.procedure.Procedure.{Procedure}
 use Rattle.laws_line.specs.Share.{is_granted}
 use Rattle.model_line.specs.Event as line_event
-use Rattle.model_line.specs.Event.{expiry, request}
+use Rattle.model_line.specs.Event.{request}
 use Rattle.model_line.specs.Line.{is_terminal}
 use Rattle.model_line.specs.Request.{AskTei}
 use Rattle.laws_trace.specs.AskingEnds.{is_result, results_in, results, is_t202, expiries, breaks_off, goes_on, HasResult, AskingEnds}

@@ -13,7 +13,6 @@ use Rattle.model_teis.specs.terminal.Machine.{Terminal}
 use Rattle.model_teis.specs.terminal.Messages.{heard_in, heard_of_type}
 use Rattle.model_teis.specs.terminal.Rows as rows
 use Rattle.model_teis.specs.terminal.Words as words
-use Rattle.model_teis.specs.Steps.{nothing_happens}
 use Rattle.model_teis.specs.terminal.Words.{Course, begun, end_procedure, end_verifying_of, unserved}
 use Rattle.laws_trace.specs.ManagingTerminal as seen
 use Rattle.laws_trace.specs.ManagingTerminal.{OfTerminal}

@@ -3,7 +3,7 @@ pub use Rattle.std.proofs.Common.{All, Bool, Err, IfSome, List, None, Ok, Option
 pub use Rattle.std.proofs.Common.{◌/◌, ◌<◌, ◌==◌, ◌||◌, ◌∙◌, ◌∷◌, ◌≡◌, ◌≢◌, ◌≤◌, ◌⊎◌}
 pub use Rattle.std.proofs.Math.Bool.{and-true, or-false, or-true, or_comm}
 pub use Rattle.std.proofs.Math.Seq.{drop-nil, take-length}
-pub use Rattle.std.proofs.lemmas.Bool.{and_parts, and_right, cond_both, eqb-false, false_from_ne_true, le-leb, le-ltb, leb-false, leb-true, lt-ltb, ltb-false, ltb-true, or_from, or_parts, or_right}
+pub use Rattle.std.proofs.lemmas.Bool.{and_parts, and_right, cond_both, eqb-false, false_from_ne_true, le-leb, le-ltb, leb-false, leb-true, lt-ltb, ltb-false, ltb-true, or_parts, or_right}
 pub use Rattle.std.proofs.lemmas.Grind.{flat_map-append}
 pub use Rattle.std.proofs.lemmas.List.{get_or-replicate, get_or-set_other, get_or-set_same, length-drop, length-replicate, map-append, length-map}
 pub use Rattle.std.proofs.lemmas.List.Elements.{All-append, All-cons, All-drop, All-head, All-nil, All-tail, All-take, All-weaker, filter-append}
@@ -17,12 +17,12 @@ pub use Rattle.std.specs.Result.{result_err, result_ok}
 pub use Rattle.lapd_count.specs.Counters.{More}
 pub use Rattle.lapd_frame.proofs.AddressField.{address-again}
 pub use Rattle.lapd_frame.proofs.ControlField.{control-again}
-pub use Rattle.lapd_frame.proofs.Naming.{exchanged-back, exchanged-small, management-spelled, management-stays, named-ok, parts-back, reading-again, reading-found, renamed-back}
+pub use Rattle.lapd_frame.proofs.Naming.{exchanged-back, exchanged-small, management-spelled, named-ok, reading-again, reading-found, renamed-back}
 pub use Rattle.lapd_frame.specs.Grammar.{Parts, cr_bit, head_of, other_side, spelling as side_spelling}
 pub use Rattle.lapd_frame.specs.Reading.{checked, completed}
 unfoldable pub use Rattle.lapd_frame.specs.Reading.{header_of, reading as side_reading}
 unfoldable pub use Rattle.lapd_frame.specs.Senders.{exchanged, reading}
-pub use Rattle.lapd_frame.specs.Senders.{fault_named, named as named_by, parts_named, renamed, spelling}
+pub use Rattle.lapd_frame.specs.Senders.{fault_named, named as named_by, renamed, spelling}
 pub use Rattle.lapd_frame.specs.declared.senders.Sender.{Sender}
 pub use Rattle.lapd_frame.specs.Services.{same_service, sapi_of, service_of}
 pub use Rattle.lapd_frame.specs.declared.addresses.Address.{Address}
@@ -49,19 +49,18 @@ pub use Rattle.lapd_seq.proofs.Callers.{is_seq, seq-value}
 unfoldable pub use Rattle.lapd_seq.specs.Circle.{distance_of, named}
 unfoldable pub use Rattle.lapd_seq.specs.Numbers.{seq}
 pub use Rattle.lapd_seq.specs.declared.numbers.Seq.{Seq}
-pub use Rattle.model_teis.proofs.OfNetwork.Followed.{t201_follows}
-pub use Rattle.model_teis.proofs.OfNetwork.LawLemmas.{changes_are_told, sound-after}
+pub use Rattle.model_teis.proofs.OfNetwork.LawLemmas.{changes_are_told}
 pub use Rattle.model_teis.proofs.Tables.{at-within, free_place-is, free_tei-is, is_on-at, not_not, on-range, place_of-is}
 unfoldable pub use Rattle.model_teis.specs.network.Events.{course as tei_course, refusal as tei_refusal}
 pub use Rattle.model_teis.specs.Refused.{refusal_if as tei_refusal_if}
 pub use Rattle.model_teis.specs.network.Events.{Event as TeiEvent, after as tei_after, assign as tei_assign, check as tei_check, disown as tei_disown, message as tei_message, remove as tei_remove, step as tei_step, told as tei_told, unless_refused as tei_unless_refused}
 pub use Rattle.model_teis.specs.Changes.{HasJoined, HasLeft, Moves}
 pub use Rattle.model_teis.specs.network.Laws.{Follows, IsInRange as TeiIsInRange, stop_of}
-pub use Rattle.model_teis.specs.network.Machine.{Management, TeiTold}
+pub use Rattle.model_teis.specs.network.Machine.{Management}
 pub use Rattle.model_teis.specs.network.Messages.{action_of, frame_of as message_frame, heard_in, heard_of_type, information_of}
 pub use Rattle.model_teis.specs.Table.{IsAt, IsSoundTable, Places, free_place, has, is_free, is_in_use, is_on, means, place_of, freed}
 pub use Rattle.model_teis.specs.network.Sound.{IsSoundCheck}
-pub use Rattle.model_teis.specs.network.Words.{Course as TeiCourse, begin_check, begun as tei_begun, end_check, leave, lose_one, no_room, send, unserved, with_message as tei_with_message}
+pub use Rattle.model_teis.specs.network.Words.{Course as TeiCourse, begin_check, begun as tei_begun, end_check, leave, lose_one, no_room, send, unserved}
 pub use Rattle.model_teis.specs.declared.network.check.Check.{Check}
 pub use Rattle.model_teis.specs.declared.network.check.Period.{Period}
 pub use Rattle.model_teis.specs.declared.network.check.Period.TheVariants.{First, Second}
@@ -118,12 +117,12 @@ pub use Rattle.laws_link.proofs.Offering.{given-is-offered}
 pub use Rattle.laws_link.proofs.Once.{data-is, within-is}
 pub use Rattle.laws_link.proofs.Restarts.{establishes}
 pub use Rattle.laws_link.specs.Accepted.{accepted, acknowledged, empties, ends, is_loss, is_release, tells_loss}
-pub use Rattle.laws_link.specs.Flags.{asks_establishment, busy_asked, flag_left, owed_behind, owed_in, own_busy_left, pending_left, rejecting_heard, takes_contents, unless_put}
+pub use Rattle.laws_link.specs.Flags.{busy_asked, flag_left, owed_behind, owed_in, own_busy_left, pending_left, rejecting_heard, takes_contents, unless_put}
 pub use Rattle.laws_link.specs.Heard.{in_sequence, in_ui_frame, unit_heard, within}
 pub use Rattle.laws_link.specs.History.{share}
 pub use Rattle.laws_link.specs.InOrder.{IsInOrder}
 pub use Rattle.laws_link.specs.Offered.{Carries, IsOffered, i_frames, number_sent}
-pub use Rattle.laws_link.specs.States.{as_heard, by_frame, by_request, comes_to, is_anew, is_clearing, leads_by_agreement, leads_by_sabme, moves, numbers_begin, state_after}
+pub use Rattle.laws_link.specs.States.{as_heard, by_frame, by_request, is_anew, moves, numbers_begin, state_after}
 pub use Rattle.laws_link.specs.Telling.{numbered_as, told_by}
 pub use Rattle.model_link.specs.Timed.{obey, obeyed}
 pub use Rattle.laws_link.specs.Waiting.{answers, answers_up, as_command, as_response, command_in, commands, is_time, put, receipt_as, room, to_sabme, waiting_left}
@@ -135,7 +134,7 @@ pub use Rattle.laws_trace.specs.FramesAreRead.{FramesAreOctets, FramesAreRead, G
 pub use Rattle.laws_trace.specs.LinkFrames.{brought, fault_of, faulty_long, frame_of, is_for, is_frame_of, its_frame, malformed, reads}
 pub use Rattle.laws_trace.specs.Managing.{manages, Checked, Managed, by_event as managing_by_event, by_message as message_served, checks, due, gives, grants, is_on as managing_is_on, leaves, led, managed_after, may_check, none_on, nothing_due, over, owes, ran_out, responded}
 pub use Rattle.laws_trace.specs.News.{NewsIsTold, brings, given_up, is_news, is_sabme, is_xid, releases, wrong, wrong_frame, wrong_number}
-pub use Rattle.laws_trace.specs.Observer.{Observed, View, anew, at_first, awaits, by_event, by_expiry as observer_by_expiry, by_frame as observer_by_frame, by_heard, by_request as observer_by_request, by_t200, enquires, enters, in_state, is_invalid as observer_is_invalid, takes_next, is_outstanding, moment_of, steps, takes as observer_takes, view_behind, view_of, views, while_down, while_up}
+pub use Rattle.laws_trace.specs.Observer.{Observed, View, anew, at_first, awaits, by_event, by_expiry as observer_by_expiry, by_frame as observer_by_frame, by_heard, by_request as observer_by_request, by_t200, enquires, enters, in_state, is_outstanding, moment_of, steps, view_behind, view_of, views, while_down, while_up}
 pub use Rattle.laws_trace.specs.Outgoing.{Outgoing, data_granted, is_empty, keeps, nothing_yet, outgoing_of, still_owes, watches, went_on, waits as outgoing_waits}
 pub use Rattle.laws_trace.specs.TeisAreManaged.{IsAsDue, TeisAreManaged, is_of_line, is_of_teis}
 pub use Rattle.laws_trace.specs.TimersAreTimely.{TimersAreTimely, TimersRun, is_order_of, renews}
@@ -201,7 +200,7 @@ pub use Rattle.model_line.specs.Requested.{aim_of_request, at_deactivated, at_re
 pub use Rattle.model_line.specs.Room.{unless}
 pub use Rattle.model_line.specs.Sides.{IsToGroup, at_side, group_told, has_management, last_unit_tei}
 pub use Rattle.model_line.specs.Sound.{IsInRange, IsSound, IsSoundAt, IsUnitData}
-pub use Rattle.model_line.specs.Taken.{Taken, first_taken, frame_of as line_frame_of, line_of, next_of, own_side, round, taken, unit_frame, with_given_frame, with_message, with_unit}
+pub use Rattle.model_line.specs.Taken.{Taken, frame_of as line_frame_of, line_of, next_of, own_side, round, taken, unit_frame, with_given_frame, with_message, with_unit}
 pub use Rattle.model_line.specs.declared.config.Config.{Config}
 pub use Rattle.model_link.proofs.Waits.{sapi-small}
 pub use Rattle.model_link.proofs.Delivering.{delivery, event-delivers}

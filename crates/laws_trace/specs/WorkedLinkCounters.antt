@@ -12,7 +12,6 @@ use Rattle.laws_link.specs.Counting.{tally}
 use Rattle.model_line.specs.Event.{expiry}
 use Rattle.model_line.specs.Machine as lines
 use Rattle.model_line.specs.Request.{Assign, Data, Deactivate, Release}
-use Rattle.model_card.specs.Card.{fresh}
 use Rattle.model_card.specs.Event.{Event, at}
 use Rattle.model_card.specs.Run.{moments, after_all}
 use Rattle.laws_line.specs.card.Worked.{usual, on_0, up}

@@ -1,5 +1,5 @@
 -- The words of std, of the crates below and of the statements of this crate with which its proofs speak, from where they are defined.
-pub use Rattle.std.proofs.Common.{Bool, IfSome, IsTrue, List, None, Ok, Option, Some, [], ap, append-nil, append_assoc, arith, cond, drop, eq-eqb, eqb-true, false, flat_map, get_or, if◌then◌else◌, inl, inr, is_some, length, length-append, map, nat_eq, nat_lt, not, option_map, refl, replicate, set, slice_get, slice_index, subst, suc, sym, take, true, true≢false, zero, ℕ, ⊎_elim, ◌%◌, ◌&&◌, ◌*◌}
+pub use Rattle.std.proofs.Common.{Bool, IfSome, IsTrue, List, None, Ok, Option, Some, [], ap, append-nil, append_assoc, arith, cond, drop, eq-eqb, eqb-true, false, flat_map, get_or, if◌then◌else◌, inl, inr, is_some, length, length-append, map, nat_lt, not, option_map, refl, replicate, set, slice_get, subst, suc, sym, take, true, true≢false, zero, ℕ, ⊎_elim, ◌%◌, ◌&&◌, ◌*◌}
 pub use Rattle.std.proofs.Common.{◌++◌, ◌+◌, ◌-◌, ◌<◌, ◌==◌, ◌||◌, ◌∙◌, ◌∷◌, ◌≡◌, ◌≢◌, ◌≤◌, ◌⊎◌}
 pub use Rattle.std.proofs.lemmas.Bool.{and_parts, cases_eq, false≢true, le-ltb, leb-true, lt-ltb, ltb-false, ltb-true, ne_eqb, or_parts}
 pub use Rattle.std.proofs.lemmas.List.{get_or-set_other, get_or-set_same, length-map, length-replicate, length-take-le, map-append, set-get_or, take-append-drop, take_all, append_cancel_left, length-drop}
@@ -102,7 +102,6 @@ pub use Rattle.model_line.specs.Heard.{addressed, aim_of_heard, aim_of_reading, 
 pub use Rattle.model_line.specs.Line.{Line, fresh_line, has_tei, link_at, link_count, link_in, link_number, link_of, place_in, service_at, state_in, state_of, tei_at, terms, terms_at}
 pub use Rattle.model_line.specs.Machine.{of_heard, of_request, unless_refused, unless_refused_told}
 unfoldable pub use Rattle.model_line.specs.Machine.{after as line_after, answer as line_answer, takes_slot as line_takes_slot}
-pub use Rattle.model_line.specs.Refusal.{bad_tei, first_that_holds, no_link, wrong_state}
 pub use Rattle.model_line.specs.Request.{Assign, ClearBusy, Data, Establish, Release, Request, SetBusy}
 pub use Rattle.model_line.specs.Requested.{aim_of_request, at_requested}
 pub use Rattle.model_line.specs.Sides.{at_side}
@@ -144,7 +143,7 @@ pub use Rattle.laws_wire.specs.Arriving.{ArrivesInRounds, ArrivesInTurns, Arrive
 unfoldable pub use Rattle.laws_wire.specs.Arriving.{ever}
 pub use Rattle.laws_wire.specs.Call.{AreOpposite, CallsComeThrough, CanCall, ComesThrough, IsBeginningOf, IsCall, IsTalk, IsTalkOf, ToldInOrder, all_told, assigned, calling, calls_back, confirmed, data_told, indicated, endpoint, told_first}
 unfoldable pub use Rattle.laws_wire.specs.Call.{both_call}
-pub use Rattle.laws_wire.specs.Counted.{Counts, ExpiriesAreCounted, IsBelow, IsCounted, IsCountedOf, LossyExpiriesAreCounted, counted, counting, is_7, is_in_7, uncounted}
+pub use Rattle.laws_wire.specs.Counted.{Counts, ExpiriesAreCounted, IsBelow, IsCountedOf, LossyExpiriesAreCounted, counted, counting, is_7, is_in_7, uncounted}
 unfoldable pub use Rattle.laws_wire.specs.Counted.{StayCounted, StaySpared}
 pub use Rattle.laws_wire.specs.Ending.{CallsEnd, EndsSo, IsLeaving, IsTimelyThere, release_confirmed, release_indicated}
 unfoldable pub use Rattle.laws_wire.specs.Ending.{StayTimelyThere}

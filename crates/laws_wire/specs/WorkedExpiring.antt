@@ -1,6 +1,6 @@
 -- Worked values of a call in which an I-frame is lost, and from then on nothing: T200 expires twice, as one content is missing. Each
 -- computes.
-use Rattle.std.specs.Prelude.{◌≡◌, true, false, List, [], ◌∷◌, ◌++◌, refl}
+use Rattle.std.specs.Prelude.{◌≡◌, false, List, [], ◌∷◌, ◌++◌, refl}
 use Rattle.lapd_frame.specs.declared.services.Service.TheVariants.{Call}
 use Rattle.lapd_frame.specs.declared.timers.Timer.TheVariants.{T200}
 use Rattle.lapd_frame.specs.Reading.{reading, header_of, control_of, unnumbered_of, supervisory_of}
@@ -13,9 +13,8 @@ use Rattle.model_line.specs.Request.{Data}
 use Rattle.laws_wire.specs.Wire.{Wire, requests, expires, sends, receives, loses, StepAt, at_near, at_far, doing_all}
 use Rattle.laws_wire.specs.Call.{confirmed, indicated, data_told}
 use Rattle.laws_wire.specs.Losing.{heard_in}
-use Rattle.laws_wire.specs.Facing.{granted_of}
 use Rattle.laws_wire.specs.Recovering.{round}
-use Rattle.laws_wire.specs.Resting.{moves, expiries}
+use Rattle.laws_wire.specs.Resting.{moves}
 use Rattle.laws_wire.specs.Arriving.{runs_t200, near_asks}
 use Rattle.laws_wire.specs.Expiring.{how_often, most_since}
 use Rattle.laws_wire.specs.Worked.{begins}

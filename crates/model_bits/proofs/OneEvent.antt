@@ -1,5 +1,5 @@
 -- Eight bits bring at most one event: what ends one leaves no open gap, or one that is too young to end another.
-use Rattle.model_bits.proofs.Vocabulary.{◌≡◌, ℕ, suc, ◌<◌, ◌≤◌, ◌⊎◌, Bool, true, false, List, [], ◌∷◌, ◌++◌, length, reverse, Option, Some, None, IfSome, option_to_list, nat_lt, refl, ap, sym, ◌∙◌, subst, arith, inl, inr, ⊎_elim, cases_lt, cases_eq, lt-ltb, le-ltb, length-reverse, bits, low_bits, Event, heard_at, heard_until, room_for, OneEventAnOctet, run_of, open_gap, one_more, given_up_event}
+use Rattle.model_bits.proofs.Vocabulary.{◌≡◌, ℕ, suc, ◌<◌, ◌≤◌, ◌⊎◌, Bool, true, false, List, [], ◌∷◌, ◌++◌, length, reverse, Option, Some, None, IfSome, option_to_list, nat_lt, refl, ap, sym, ◌∙◌, arith, inl, inr, ⊎_elim, cases_lt, cases_eq, lt-ltb, le-ltb, length-reverse, bits, low_bits, Event, heard_at, heard_until, room_for, OneEventAnOctet, run_of, open_gap, one_more, given_up_event}
 use Rattle.model_bits.proofs.Vocabulary.{closed_event}
 use Rattle.std.proofs.lemmas.List.{append-nil}
 use Rattle.model_bits.proofs.BitLemmas.{length-low_bits, reverse-bits_push}

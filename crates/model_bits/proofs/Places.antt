@@ -1,6 +1,6 @@
 -- Places in a stream, named by the bits up to them with the latest first: where flags and aborts end, and
 -- what stands in the gap that is open.
-use Rattle.model_bits.proofs.Vocabulary.{◌≡◌, ℕ, suc, ◌+◌, ◌<◌, ◌≤◌, ◌⊎◌, Bool, true, false, List, [], ◌∷◌, ◌++◌, length, reverse, drop, min, Option, Some, nat_eq, nat_le, refl, ap, sym, ◌∙◌, subst, option_map, arith, inl, inr, ⊎_elim, false≢true, le-leb, lt-leb, leb-false, eqb-false, cases_Bool, or_parts, reverse-append, ends_flag, ends_abort, since_flag, has_abort, run_of}
+use Rattle.model_bits.proofs.Vocabulary.{◌≡◌, ℕ, suc, ◌+◌, ◌<◌, ◌≤◌, ◌⊎◌, Bool, true, false, List, [], ◌∷◌, ◌++◌, length, reverse, drop, min, Option, Some, nat_eq, nat_le, refl, ap, sym, ◌∙◌, subst, option_map, arith, ⊎_elim, false≢true, le-leb, lt-leb, leb-false, eqb-false, cases_Bool, or_parts, reverse-append, ends_flag, ends_abort, since_flag, has_abort, run_of}
 use Rattle.model_bits.proofs.StuffingCounted.{ones_after, ones_after-append, NoSix, NoSix-append}
 
 -- a list with one element more in front, read from the end

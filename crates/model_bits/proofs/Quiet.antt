@@ -1,5 +1,5 @@
 -- Bits that end nothing, and a flag among such bits: what is heard in them, and the gap that is open behind them.
-use Rattle.model_bits.proofs.Vocabulary.{◌≡◌, ◌≢◌, ℕ, suc, ◌<◌, ◌≤◌, min, Bool, true, false, if◌then◌else◌, List, [], ◌∷◌, ◌++◌, Option, Some, None, option_to_list, option_map, refl, ap, sym, ◌∙◌, arith, ⊎_elim, cases_lt, heard_at, heard_until, run_of, open_gap, one_more, given_up_event, closed_event}
+use Rattle.model_bits.proofs.Vocabulary.{◌≡◌, ◌≢◌, ℕ, suc, min, Bool, true, false, if◌then◌else◌, List, [], ◌∷◌, ◌++◌, Option, Some, None, option_to_list, option_map, refl, ap, sym, ◌∙◌, arith, ⊎_elim, cases_lt, heard_at, heard_until, run_of, open_gap, one_more, given_up_event, closed_event}
 use Rattle.std.proofs.lemmas.List.{append-nil}
 use mathlib.Core.List.{reverse_aux}
 use Rattle.model_bits.proofs.Hearing.{heard_at-one, heard_at-abort, heard_at-zero, heard_at-flag, open_gap-one, open_gap-abort, open_gap-seven, open_gap-zero, open_gap-flag}

@@ -1,6 +1,6 @@
 -- What is heard takes room in the stream: each frame its octets, its check and one flag.
-use Rattle.model_bits.proofs.Vocabulary.{◌≡◌, ℕ, suc, ◌+◌, ◌*◌, ◌≤◌, ◌<◌, Bool, true, false, not, ◌||◌, ◌-◌, List, [], ◌∷◌, length, reverse, drop, take, Option, Some, None, option_map, option_to_list, option_and_then, nat_lt, refl, ap, sym, subst, arith, cond, length-drop, sum_by, All, ltb-false, ltb-true, or_parts, length-reverse, length-take-le, All-nil, All-append, sum_by-append, bits, is_good}
-use Rattle.model_bits.proofs.Vocabulary.{stuffed, octets_sent, Event, overlong, dropped, ends_flag, has_abort, since_flag, is_short, judged, text_event, gap_event, closed_by_flag, given_up, heard_at, heard_until, heard_in, room_for, octets_taken, IsWhole, HeardWithinStream, Cause, Short, Fcs}
+use Rattle.model_bits.proofs.Vocabulary.{◌≡◌, ℕ, suc, ◌+◌, ◌*◌, ◌≤◌, ◌<◌, Bool, true, false, ◌||◌, ◌-◌, List, [], ◌∷◌, length, reverse, drop, take, Option, Some, None, option_map, option_to_list, option_and_then, nat_lt, refl, ap, sym, subst, arith, cond, length-drop, sum_by, All, ltb-false, ltb-true, or_parts, length-reverse, length-take-le, All-nil, All-append, sum_by-append, bits}
+use Rattle.model_bits.proofs.Vocabulary.{stuffed, octets_sent, Event, overlong, dropped, ends_flag, has_abort, since_flag, is_short, judged, text_event, gap_event, closed_by_flag, given_up, heard_at, heard_until, heard_in, room_for, octets_taken, IsWhole, HeardWithinStream, Cause}
 use Rattle.model_bits.specs.Stream.{frame}
 use Rattle.model_bits.proofs.BitLemmas.{length-bits}
 use Rattle.model_bits.proofs.StuffingOctets.{octets_are_those_sent}

@@ -26,4 +26,4 @@ pub use Rattle.model_bits.specs.StreamLaws.{HeardWithinStream, IsWhole, OneEvent
 pub use Rattle.model_bits.specs.Stuffing.{octets_sent, stuffed, unstuffed}
 pub use Rattle.model_bits.specs.StuffingLaws.{AreOctets, EndsInFiveOnes, HasSixOnes, NoneWhereNoneSent, OctetsAreThoseSent, OneTextEach, StuffedBitsComeBack, StuffedTexts}
 pub use Rattle.model_bits.specs.declared.heard.Cause.{Cause}
-pub use Rattle.model_bits.specs.declared.heard.Cause.TheVariants.{Fcs, Ragged, Short}
+pub use Rattle.model_bits.specs.declared.heard.Cause.TheVariants.{Ragged}

@@ -1,5 +1,5 @@
 -- How many octets the parts of an image have: the configuration, links, TEI management and lines.
-use Rattle.std.proofs.Common.{arith, lit<, ◌≡◌, ℕ, suc, ◌+◌, ◌*◌, ◌%◌, ◌^◌, ◌<◌, ◌≤◌, Bool, true, false, cond, List, [], ◌∷◌, ◌++◌, length, Option, Some, None, refl, sym, subst, length-drop}
+use Rattle.std.proofs.Common.{arith, lit<, ◌≡◌, ℕ, suc, ◌+◌, ◌*◌, ◌%◌, ◌^◌, ◌<◌, ◌≤◌, Bool, true, false, cond, List, [], ◌∷◌, ◌++◌, length, Option, Some, None, refl, subst, length-drop}
 use Rattle.std.specs.List.{range_with_len}
 use Rattle.std.specs.Prelude.{All, IfSome, flat_map, map, sum_by}
 use Rattle.std.proofs.lemmas.List.Elements.{All-drop, All-from_get_or}

@@ -14,7 +14,7 @@ use Rattle.model_link.specs.declared.timers.LinkTimer.TheVariants as running
 use Rattle.model_line.specs.declared.config.Config.{Config}
 use Rattle.model_line.specs.Line.{Line, Own, is_terminal, link_count, link_at, place_at, service_at, tei_at}
 use Rattle.model_line.specs.Sound as line_sound
-use Rattle.model_line.specs.Sound.{IsInRange, IsOfSide}
+use Rattle.model_line.specs.Sound.{IsOfSide}
 use Rattle.model_line.specs.Stored.{slots_of}
 use Rattle.model_card.specs.Card.{Card, line_at}
 use Rattle.model_card.specs.Sound.{IsSound}

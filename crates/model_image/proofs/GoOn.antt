@@ -1,13 +1,8 @@
 -- Two links that are the same go on the same: when two courses are alike, and what each word of the tables makes of them.
-use Rattle.std.proofs.Common.{eq-eqb, eqb-true}
-use Rattle.std.proofs.lemmas.Bool.{ltb-false, ltb-true}
-use Rattle.std.proofs.Common.{arith, ◌≡◌, ℕ, ◌+◌, ◌-◌, ◌%◌, ◌≤◌, ◌==◌, Bool, true, false, cond, not, List, [], ◌∷◌, ◌++◌, length, take, drop, Option, Some, None, refl, sym, ap, ◌∙◌}
-use Rattle.std.specs.Prelude.{nat_lt, nat_le, min}
-use Rattle.std.proofs.lemmas.Bool.{leb-true, leb-false}
+use Rattle.std.proofs.Common.{arith, ◌≡◌, ℕ, ◌+◌, ◌-◌, ◌%◌, ◌≤◌, Bool, true, false, cond, List, [], ◌∷◌, ◌++◌, length, take, drop, refl, sym, ap, ◌∙◌}
+use Rattle.std.specs.Prelude.{nat_lt, min}
 use Rattle.std.proofs.lemmas.List.{drop-drop, drop-append-le, drop_all, length-append, length-take-le}
-use Rattle.lapd_seq.specs.declared.numbers.Seq.{Seq}
 use Rattle.lapd_seq.specs.Numbers.{seq}
-use Rattle.lapd_seq.specs.Circle.{named, distance_of}
 use Rattle.lapd_seq.proofs.Callers.{is_seq, seq-value}
 use Rattle.lapd_frame.specs.declared.controls.Control.TheVariants.{ReceiveReady, ReceiveNotReady, Reject}
 use Rattle.lapd_frame.specs.declared.notes.Note.{Note}
@@ -22,12 +17,11 @@ use Rattle.model_link.specs.declared.frames.ControlFrame.{ControlFrame}
 use Rattle.model_link.specs.declared.states.State.{State}
 use Rattle.model_link.specs.declared.timers.LinkTimer.{LinkTimer}
 use Rattle.model_link.specs.declared.terms.Terms.{Terms}
-use Rattle.model_link.specs.Link.{Link, queue_of, has_outstanding, is_asked, is_peer_busy, is_own_busy, is_rejecting, may_repeat}
+use Rattle.model_link.specs.Link.{Link, queue_of}
 use Rattle.model_link.specs.Steps.{Course, Step, ◌then◌, nothing, depending_on, by_bit}
 use Rattle.model_link.specs.Words.{note, deliver, deliver_unit, leave_unserved, read_as, peer_busy_is, own_busy_is, rejecting_is, pending_is, asked_is, repeats_are, repeated, enter, clear_flags, start, no_timer}
-use Rattle.model_link.specs.Words.{zero_numbers, count, discard, acknowledge, send_again_from, count_received, begin_anew, send, command, response, rr_or_rnr, enquire, answer, report_receiver_status, reject, error, re_establish, by_number}
-use Rattle.model_link.specs.MultipleFrame.{is_next, data_in_7_8}
-use Rattle.model_link.specs.Established.{is_all_sent, is_beyond_acknowledged}
+use Rattle.model_link.specs.Words.{zero_numbers, count, discard, acknowledge, send_again_from, count_received, begin_anew, send, command, response, rr_or_rnr, enquire, answer, report_receiver_status, reject}
+use Rattle.model_link.specs.MultipleFrame.{data_in_7_8}
 
 -- All but numbers and contents, with how many go again and what was counted; numbers and contents; what is answered so far.
 abbrev pub SameFlags : Link → Link → Type 0

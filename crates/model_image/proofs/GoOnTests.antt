@@ -1,33 +1,23 @@
 -- Two links that are the same go on the same: what an N(R) names, what the tests tell, and the rules by which rows are proved.
 use Rattle.std.proofs.Common.{eq-eqb, eqb-true}
 use Rattle.std.proofs.lemmas.Bool.{ltb-false, ltb-true}
-use Rattle.std.proofs.Common.{arith, ◌≡◌, ℕ, ◌+◌, ◌-◌, ◌%◌, ◌≤◌, ◌==◌, Bool, true, false, cond, not, List, [], ◌∷◌, ◌++◌, length, take, drop, Option, Some, None, refl, sym, ap, ◌∙◌}
+use Rattle.std.proofs.Common.{arith, ◌≡◌, ℕ, ◌+◌, ◌-◌, ◌%◌, ◌≤◌, ◌==◌, Bool, true, false, cond, not, Option, Some, None, refl, ap, ◌∙◌}
 use Rattle.std.specs.Prelude.{nat_lt, nat_le}
 use Rattle.std.proofs.lemmas.Bool.{leb-true, leb-false}
-use Rattle.std.proofs.lemmas.List.{drop-drop, drop-append-le, drop_all, length-append, length-take-le}
 use Rattle.lapd_seq.specs.declared.numbers.Seq.{Seq}
 use Rattle.lapd_seq.specs.Numbers.{seq}
 use Rattle.lapd_seq.specs.Circle.{named, distance_of}
-use Rattle.lapd_seq.proofs.Callers.{is_seq, seq-value}
-use Rattle.lapd_frame.specs.declared.controls.Control.TheVariants.{ReceiveReady, ReceiveNotReady, Reject}
-use Rattle.lapd_frame.specs.declared.notes.Note.{Note}
 use Rattle.lapd_frame.specs.declared.notes.Note.TheVariants as notes
 use Rattle.lapd_frame.specs.declared.notes.ErrorCode.TheVariants as code
-use Rattle.lapd_frame.specs.declared.readings.Reading.{Reading}
-use Rattle.lapd_frame.specs.declared.readings.Reading.TheVariants.{Profile, AnnexB}
-use Rattle.lapd_frame.specs.Readings.{by_reading}
-use Rattle.model_link.specs.declared.frames.ControlFrame.{ControlFrame}
 use Rattle.model_link.specs.declared.states.State.{State}
-use Rattle.model_link.specs.declared.timers.LinkTimer.{LinkTimer}
 use Rattle.model_link.specs.declared.terms.Terms.{Terms}
 use Rattle.model_link.specs.Link.{Link, has_outstanding, is_asked, is_peer_busy, is_own_busy, is_rejecting, may_repeat, most_repeats, state_number}
-use Rattle.model_link.specs.Steps.{Course, Step, ◌then◌, nothing, depending_on, by_bit}
-use Rattle.model_link.specs.Words.{note, deliver, deliver_unit, leave_unserved, read_as, peer_busy_is, own_busy_is, rejecting_is, pending_is, asked_is, repeats_are, repeated, enter, clear_flags, start, no_timer}
-use Rattle.model_link.specs.Words.{zero_numbers, discard, acknowledge, send_again_from, count_received, begin_anew, send, command, response, rr_or_rnr, enquire, answer, report_receiver_status, reject, error, re_establish, by_number}
-use Rattle.model_link.specs.MultipleFrame.{is_next, data_in_7_8}
+use Rattle.model_link.specs.Steps.{Course, Step, ◌then◌}
+use Rattle.model_link.specs.Words.{error, re_establish, by_number}
+use Rattle.model_link.specs.MultipleFrame.{is_next}
 use Rattle.model_link.specs.Established.{is_all_sent, is_beyond_acknowledged}
-use Rattle.model_image.proofs.GoOn.{Alike, Named, Leads2, Tells, then2, keep2, nothing2, depending2, bit2, read2, forget, note2, deliver2, deliver_unit2, unserved2, peer_busy2, own_busy2, rejecting2, pending2, asked2}
-use Rattle.model_image.proofs.GoOn.{count2, repeats2, repeated2, enter2, clear2, start2, no_timer2, zero2, discard2, acknowledge2, send_again2, alike_then, received2, anew2, data2, send2, seq-same, enquire2, answer2, report2, reject2}
+use Rattle.model_image.proofs.GoOn.{Alike, Named, Leads2, Tells, keep2, nothing2, depending2, bit2, read2, note2, deliver2, deliver_unit2, unserved2, peer_busy2, own_busy2, rejecting2, pending2, asked2}
+use Rattle.model_image.proofs.GoOn.{count2, repeats2, repeated2, enter2, clear2, start2, no_timer2, zero2, discard2, received2, anew2, data2, send2, seq-same, enquire2, answer2, report2, reject2}
 
 -- An N(R) names a number of each, or of neither.
 abbrev AreNamed : ℕ → ℕ → ℕ → ℕ → Option ℕ → Option ℕ → Type 0

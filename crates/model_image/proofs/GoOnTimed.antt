@@ -1,10 +1,9 @@
 -- Two cards that are the same go on the same beside one clock.
-use Rattle.std.proofs.Common.{◌≡◌, ℕ, ◌<◌, List, [], ◌∷◌, Option, Some, None, refl, sym, ap, ◌∙◌, subst}
+use Rattle.std.proofs.Common.{◌≡◌, ℕ, List, [], ◌∷◌, Option, Some, None, refl, ap, subst}
 use Rattle.std.specs.Prelude.{option_map}
 use Rattle.std.specs.Option.{option_map_or}
-use Rattle.lapd_clock.specs.Timer.{Order}
 use Rattle.lapd_clock.specs.Timers.{Expiry}
-use Rattle.model_timed.specs.Clock.{Clock, obeyed, due, without_first, at_moment}
+use Rattle.model_timed.specs.Clock.{Clock, obeyed, due, without_first}
 use Rattle.model_timed.specs.Timed.{Kind, Step, Timed, happens, time, falls_due, after, event_of, expiry_at, with_expiry, IsPrompt}
 unfoldable use Rattle.model_timed.specs.Timed.{after_all, ArePrompt}
 unfoldable use Rattle.model_timed.specs.Changes.{marks_after}

@@ -1,5 +1,5 @@
 -- A card that is restored goes on.
-use Rattle.std.proofs.Common.{◌≡◌, ℕ, ◌<◌, Bool, true, false, List, [], ◌∷◌, ◌++◌, append-nil, append_assoc, get_or, replicate, Option, Some, None, refl, sym, ap, ◌∙◌, subst, nat_le, cond, arith}
+use Rattle.std.proofs.Common.{◌≡◌, ℕ, ◌<◌, Bool, List, [], ◌∷◌, ◌++◌, append-nil, append_assoc, get_or, replicate, Option, Some, None, refl, sym, ap, ◌∙◌, subst, nat_le, cond, arith}
 use Rattle.std.specs.List.{AllByRecursion}
 use Rattle.std.specs.Prelude.{fold, IfSome}
 use Rattle.std.proofs.lemmas.List.Sums.{fold-append}
@@ -24,11 +24,11 @@ use Rattle.model_timed.specs.Clock.{Clock, due, first_due}
 use Rattle.model_timed.specs.Frames.{frames}
 use Rattle.model_timed.specs.Octets as timed_octets
 use Rattle.model_timed.specs.RunTheSame.{Stands}
-use Rattle.model_timed.specs.Timed.{Step, ArePrompt, IsPrompt, after}
+use Rattle.model_timed.specs.Timed.{Step, ArePrompt, after}
 use Rattle.model_timed.proofs.RunTheSame.{stepped, octet-stepped}
-use Rattle.model_image.specs.Images.{Saved, image_of}
+use Rattle.model_image.specs.Images.{Saved}
 use Rattle.model_image.specs.Laws.{AreSameCards}
-use Rattle.model_image.specs.Restored.{IsRestored, BeginsAgain, RestoredCardsAreReached, AreSameOctetCards, TimedGoesOn, TimedOctetsGoOn, noted_in, beside, GoesOnAs, ARestoredCardGoesOn}
+use Rattle.model_image.specs.Restored.{RestoredCardsAreReached, AreSameOctetCards, TimedGoesOn, TimedOctetsGoOn, noted_in, beside, ARestoredCardGoesOn}
 use Rattle.model_image.specs.Same.{AreSameClocks}
 use Rattle.model_image.specs.Sound.{IsClockOf, IsSaved}
 use Rattle.model_image.proofs.GoOnCards.{cards_go_on}

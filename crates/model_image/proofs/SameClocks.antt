@@ -1,7 +1,6 @@
 -- Two clocks with the same moments are the same: what runs stands in one order.
-use Rattle.std.proofs.Common.{◌≡◌, ℕ, ◌<◌, ◌==◌, ◌&&◌, Bool, true, false, cond, List, [], ◌∷◌, Option, Some, None, refl, sym, ap, ◌∙◌, subst}
+use Rattle.std.proofs.Common.{◌≡◌, ℕ, ◌<◌, ◌==◌, true, false, cond, List, [], ◌∷◌, Some, None, refl, sym, ap, ◌∙◌, subst}
 use Rattle.std.specs.List.{AllByRecursion}
-use Rattle.std.proofs.lemmas.Bool.{true≢false}
 use Rattle.std.proofs.lemmas.Option.{none-some, same_Some}
 use Rattle.lapd_clock.specs.InOrder.{IsInOrder}
 use Rattle.lapd_clock.specs.Moments.{moment_of}
@@ -14,7 +13,6 @@ use Rattle.lapd_clock.proofs.TimerOrder.{same_expiry}
 use Rattle.model_timed.specs.Clock.{Clock}
 use Rattle.model_timed.proofs.Orders.{both, same-number, equal}
 use Rattle.model_image.specs.Same.{IsSameClock}
-use Rattle.model_image.specs.Sound.{IsClockOf}
 
 -- an expiry by its line, its timer and its moment
 by-parts : (e x : Expiry) → is_of x.line x.timer e ≡ true → e.moment ≡ x.moment → e ≡ x

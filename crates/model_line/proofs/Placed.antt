@@ -1,9 +1,8 @@
 -- What an event of a line starts is of TEIs on the line, and a TEI that is on it before and after is at one place.
 use Rattle.model_line.proofs.Vocabulary.{◌≡◌, ℕ, ◌<◌, Bool, true, false, cond, not, ◌&&◌, List, [], ◌∷◌, ◌++◌, length, get_or, set, is_some, Option, Some, None, IsSome, option_map, refl, ap, sym, ◌∙◌, subst, arith, inl, inr, cases_eq, get_or-set_same, get_or-set_other, none-some, Service, Call, Packet, Order, LinkTimer, Terms, Link, Given, runs, orders_for, timer_at, Management, IsAt, Places}
 use Rattle.model_line.proofs.Vocabulary.{Change, Gained, Left, at-off, place_of-is, TeiEvent, TerminalEvent, tei_down, Refusal, refusal, unless_refused, unless_refused_told, aim_of, aim_of_request, Config, Event, hears, expiry, request, next, gave, orders_in, Line, fresh, with_link, link_number, link_in, place_in, place_at, service_at, terms, link_at, Aim}
-use Rattle.model_line.proofs.Vocabulary.{at_link, at_management, at_terminal, at_no_link, of_aim, of_change, LineTold, Own, without_units, Effect, Taken, with_unit, with_given_frame, taken, next_of, after, answer, IsSound, link_cleared, link_given, link_told, link_offer, LinkEvent, course}
+use Rattle.model_line.proofs.Vocabulary.{at_link, at_management, at_terminal, at_no_link, of_aim, of_change, LineTold, Own, without_units, Effect, Taken, with_unit, with_given_frame, next_of, after, answer, IsSound, link_cleared, link_given, link_told, link_offer, LinkEvent, course}
 use Rattle.std.proofs.lemmas.Bool.{false≢true}
-use Rattle.std.specs.List.{AllByRecursion}
 use Rattle.lapd_frame.specs.declared.timers.Order.TheVariants.{Start, Stop}
 use Rattle.model_teis.specs.network.Laws as tei_laws
 use Rattle.model_link.specs.Told.{order_for}

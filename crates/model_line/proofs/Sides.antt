@@ -1,5 +1,5 @@
 -- What a frame is on each side of a line.
-use Rattle.model_line.proofs.Vocabulary.{◌≡◌, ℕ, ◌≤◌, nat_lt, arith, true, false, Option, eqb-true, leb-true, ltb-false, Unserved, Side, User, Network, Service, Parts, service_of, Config, LineTold, Aim, at_none, at_link, at_management, at_terminal, at_units, at_no_link, group_told, told_of_group, at_side, last_unit_tei, has_management, IsToGroup}
+use Rattle.model_line.proofs.Vocabulary.{◌≡◌, ℕ, ◌≤◌, nat_lt, arith, true, false, Option, eqb-true, leb-true, ltb-false, Unserved, Side, User, Service, Parts, service_of, Config, LineTold, Aim, at_none, at_link, at_management, at_terminal, at_units, at_no_link, group_told, told_of_group, at_side, last_unit_tei, has_management, IsToGroup}
 use Rattle.model_line.specs.Event.{dropped}
 
 -- What holds of an aim where it is served: of one at TEI management, on a side that has it.

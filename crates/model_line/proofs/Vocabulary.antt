@@ -1,5 +1,5 @@
 -- The words with which the proofs of this crate speak, from where they are defined.
-pub use Rattle.std.proofs.Common.{Bool, Err, IfSome, IsSome, List, None, Ok, Option, Result, Some, [], ap, arith, cond, drop, eq-eqb, eqb-true, false, filter, get_or, inl, inr, is_some, length, length-append, length-drop, length-set, map, max, nat_le, nat_lt, not, option_map, refl, replicate, set, slice_get, slice_index, subst, suc, sym, take, true, true≢false, zero, ℕ, ⊎_elim, ◌%◌, ◌&&◌, ◌*◌}
+pub use Rattle.std.proofs.Common.{Bool, Err, IfSome, IsSome, List, None, Ok, Option, Result, Some, [], ap, arith, cond, drop, eq-eqb, eqb-true, false, get_or, inl, inr, is_some, length, length-append, length-drop, length-set, max, nat_le, nat_lt, not, option_map, refl, replicate, set, slice_get, slice_index, subst, suc, sym, take, true, true≢false, zero, ℕ, ⊎_elim, ◌%◌, ◌&&◌, ◌*◌}
 pub use Rattle.std.proofs.Common.{◌++◌, ◌+◌, ◌<◌}
 pub use Rattle.std.proofs.Common.{◌==◌, ◌||◌, ◌∙◌, ◌∷◌, ◌≡◌, ◌≢◌, ◌≤◌, ◌⊎◌}
 pub use Rattle.std.proofs.lemmas.Bool.{and_parts, cases_eq, cases_lt, le-leb, leb-false, leb-true, ltb-false, ne_eqb}
@@ -33,14 +33,14 @@ pub use Rattle.lapd_frame.specs.declared.timers.Order.{Order}
 pub use Rattle.lapd_frame.specs.declared.timers.Order.TheVariants.{Start, Stop}
 pub use Rattle.lapd_frame.specs.declared.timers.Timer.{Timer}
 pub use Rattle.lapd_frame.specs.declared.timers.Timer.TheVariants.{T200, T201, T202, T203}
-pub use Rattle.model_teis.proofs.OfNetwork.Brief.{IsBrief, told_brief}
+pub use Rattle.model_teis.proofs.OfNetwork.Brief.{told_brief}
 pub use Rattle.model_teis.proofs.OfTerminal.Brief.{told_brief as own_brief}
 pub use Rattle.model_teis.proofs.OfNetwork.Followed.{expired_t201_follows, t201_follows}
 pub use Rattle.model_teis.proofs.OfNetwork.GivenUp.{down_gives_up}
 pub use Rattle.model_teis.proofs.OfNetwork.LawLemmas.{sound-after_offer, sound-empty}
 pub use Rattle.model_teis.proofs.Tables.{at-off, at-within, place_of-is}
 unfoldable pub use Rattle.model_teis.specs.network.Events.{course as tei_course, refusal as tei_refusal}
-pub use Rattle.model_teis.specs.network.Events.{Event as TeiEvent, after as tei_after, after_offer as tei_after_offer, down as tei_down, expiry as tei_expiry, message as tei_message, told as tei_told}
+pub use Rattle.model_teis.specs.network.Events.{Event as TeiEvent, after as tei_after, down as tei_down, expiry as tei_expiry, message as tei_message, told as tei_told}
 pub use Rattle.model_teis.specs.Changes.{Moves}
 pub use Rattle.model_teis.specs.network.Laws.{Follows, most_heard, stop_of}
 pub use Rattle.model_teis.specs.network.Machine.{Management, may_send as tei_may_send}
@@ -50,7 +50,7 @@ pub use Rattle.model_teis.specs.Table.{IsAt, IsSoundTable, Places, is_on, place_
 pub use Rattle.model_teis.specs.declared.network.messages.Message.{Message}
 pub use Rattle.model_teis.specs.declared.changes.Change.{Change}
 pub use Rattle.model_teis.specs.declared.changes.Change.TheVariants.{Gained, Left}
-pub use Rattle.model_teis.specs.terminal.Events.{Event as TerminalEvent, after as terminal_after, after_offer as terminal_after_offer, down as terminal_down, expiry as terminal_expiry, told as terminal_told}
+pub use Rattle.model_teis.specs.terminal.Events.{Event as TerminalEvent, after as terminal_after, down as terminal_down, expiry as terminal_expiry, told as terminal_told}
 unfoldable pub use Rattle.model_teis.specs.terminal.Events.{course as terminal_course}
 pub use Rattle.model_teis.specs.terminal.Machine.{Terminal}
 pub use Rattle.model_teis.specs.Told.{TeiTold}
@@ -68,7 +68,7 @@ pub use Rattle.model_line.specs.Effect.{Aim, Effect, at_a_terminal, at_link, at_
 pub use Rattle.model_line.specs.Event.{Answer, Event, LineTold, expiry, gave, hears, next, nothing, refused, request, told}
 pub use Rattle.model_line.specs.Expiry.{aim_of_expiry, at_timer, is_running, runs_at}
 pub use Rattle.model_line.specs.Laws.{FallsByNext, IsRejectHeard, Rises, cause_in, orders_in}
-pub use Rattle.model_line.specs.Line.{Line, Own, UnitData, is_terminal, terminal_in, terminal_with, with_terminal, fresh_line, link_at, link_count, link_in, link_number, place_at, place_in, service_at, tei_at, terms, terms_at, window, with_link}
+pub use Rattle.model_line.specs.Line.{Line, Own, UnitData, is_terminal, terminal_in, with_terminal, fresh_line, link_at, link_count, link_in, link_number, place_at, place_in, service_at, tei_at, terms, terms_at, window, with_link}
 pub use Rattle.model_line.specs.Machine.{unless_refused, unless_refused_told, aim_of}
 unfoldable pub use Rattle.model_line.specs.Machine.{after, answer, takes_slot}
 pub use Rattle.model_line.specs.Heard.{addressed, aim_of_heard, aim_of_reading, aim_of_unnumbered, drop_for, heard_side, message_of, to_service, unless_at_link}

@@ -2,7 +2,7 @@
 use Rattle.model_link.proofs.Vocabulary.{◌≡◌, ℕ, ◌≤◌, Bool, true, false, cond, IsTrue, List, [], ◌∷◌, ◌++◌, Option, None, Some, refl, sym, subst, append_assoc, append-nil, true≢false, arith, ltb-false, Seq, seq, named, Control, ReceiveReady, ReceiveNotReady, Reject, ErrorCode, State, Established, LinkTimer, ControlFrame, Terms, Link, is_multiple_frame, Course, Step, ◌then◌, TimerRecovery}
 use Rattle.model_link.proofs.Vocabulary.{acknowledge}
 use Rattle.model_link.proofs.Vocabulary.{answer, by_number, command, enquire, error, has_room, pending_is, re_establish, rr_or_rnr, reject, report_receiver_status, response, send, clear_busy_in_7_8, failed, set_busy_in_7_8, acknowledged_by_information_in_7, acknowledged_by_rnr_in_7, acknowledged_in_7, frame_in_7, is_all_sent, is_beyond_acknowledged, timer_in_7, frame_in_8, t200_in_8, frame_in}
-use Rattle.model_link.proofs.Leads.{Leads, keeping_then, depending_leads, bit_leads, tested_leads, Passed, from_more}
+use Rattle.model_link.proofs.Leads.{Leads, keeping_then, depending_leads, bit_leads, tested_leads, from_more}
 use Rattle.model_link.proofs.SoundRows.{named-within}
 
 -- A supervisory frame that says that V(R) is r.

@@ -1,5 +1,5 @@
 -- RC stays at most N200.
-use Rattle.model_link.proofs.Vocabulary.{arith, ◌≡◌, ℕ, ◌+◌, ◌<◌, ◌≤◌, Course, begun, Terms, Link, Event, after}
+use Rattle.model_link.proofs.Vocabulary.{arith, ℕ, ◌+◌, ◌<◌, ◌≤◌, Course, begun, Terms, Link, Event, after}
 use Rattle.model_link.specs.Link.{most_rc}
 use Rattle.model_link.proofs.Kept.{Kept}
 use Rattle.model_link.proofs.Rows.{every_event}

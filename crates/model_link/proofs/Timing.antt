@@ -1,7 +1,7 @@
 -- A link that awaits something has its timer: every row keeps that.
 use Rattle.model_link.proofs.Vocabulary.{◌≡◌, ℕ, ◌≤◌, Bool, Option, Some, None, ◌⊎◌, inl, inr, refl, arith, Seq, named, ErrorCode, State, TeiAssigned, AwaitingEstablishment, AwaitingRelease, Established, TimerRecovery, LinkTimer, T200, T203, Terms, Course, Step, ◌then◌, eqb-true, acknowledge, asked_is, by_number, discard, enter, error, establish_indication, no_timer, re_establish}
 use Rattle.model_link.proofs.Vocabulary.{send_again_from, start, zero_numbers, failed, acknowledged_by_information_in_7, acknowledged_in_7, acknowledged_in_8}
-use Rattle.model_link.proofs.Leads.{Leads, keeping_then, nothing_leads, depending_leads, bit_leads, read_leads, tested_leads, Passed, from_more, to_less, leaves}
+use Rattle.model_link.proofs.Leads.{Leads, keeping_then, nothing_leads, depending_leads, bit_leads, read_leads, tested_leads, from_more, to_less, leaves}
 use Rattle.model_link.proofs.SoundRows.{named-within}
 
 -- the same as `IsTimedIn`, of what it speaks of

@@ -11,7 +11,7 @@ use Rattle.model_card.specs.Card as cards
 use Rattle.model_timed.specs.Timed.{Kind, Timed, Step, after, after_all}
 use Rattle.model_timed.specs.Frames as frames
 use Rattle.model_timed.specs.Octets as octets
-use Rattle.model_timed.specs.Changes.{Mark, Marks, Seen, standing, standing_in, seen, marked, unmarked, marks_after, changed_by, last_change, ChangesAreTold, itself, inside}
+use Rattle.model_timed.specs.Changes.{Mark, Marks, Seen, standing, standing_in, seen, marked, marks_after, changed_by, last_change, ChangesAreTold, itself, inside}
 
 -- a link that is seen has the state noted then, and the moment of the change if there is one
 same-number : (a b : ℕ) → (a == b) ≡ true → a ≡ b

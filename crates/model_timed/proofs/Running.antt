@@ -11,7 +11,7 @@ use Rattle.model_link.specs.Timed as link
 use Rattle.model_link.specs.Timed.{IsTimed}
 use Rattle.model_link.proofs.TimedRows.{timed-after}
 use Rattle.model_line.specs.Event as line_event
-use Rattle.model_line.specs.Event.{Answer, refused}
+use Rattle.model_line.specs.Event.{Answer}
 use Rattle.model_line.specs.Expiry.{is_running}
 use Rattle.model_line.specs.Laws.{orders_in}
 use Rattle.model_line.specs.Line.{Line, link_at}

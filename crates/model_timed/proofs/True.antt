@@ -7,7 +7,7 @@ use Rattle.model_timed.specs.Timed.{Kind, Timed, Step, after, after_all, AreProm
 use Rattle.model_timed.specs.Sayings.{Saying, ordered, expired, said, said_in, started_by, last_start, is_of}
 use Rattle.model_timed.specs.TimersAreTrue.{gone_to, IsTrue, NoneIsPassed, FallsDueAt, IsNext, TimersAreTrue}
 use Rattle.model_timed.specs.LengthsChange as changing
-use Rattle.model_timed.specs.LengthsChange.{Change, step, after_changes, gone_by, Told, while_set, told_in, Begun, begun_by, begun_as, last_begun, falls_at, KeepsItsLength, NoneIsPassedOver, IsFallingAt, IsNextOf, TimersKeepLengths}
+use Rattle.model_timed.specs.LengthsChange.{step, after_changes, gone_by, while_set, told_in, Begun, begun_by, begun_as, last_begun, falls_at, KeepsItsLength, NoneIsPassedOver, IsFallingAt, IsNextOf, TimersKeepLengths}
 use Rattle.model_timed.proofs.Changing.{timers_keep_lengths}
 
 -- steps alone

@@ -1,5 +1,5 @@
 -- Worked values: parts of images that those of model_image leave out, and the image of a caller's clock. Each computes.
-use Rattle.std.specs.Prelude.{◌≡◌, List, [], ◌∷◌, ◌++◌, replicate, None, Some, true, false, refl}
+use Rattle.std.specs.Prelude.{◌≡◌, [], ◌∷◌, ◌++◌, replicate, None, Some, true, false, refl}
 use Rattle.lapd_clock.specs.Image as clocks
 use Rattle.lapd_clock.specs.Places.{in_order}
 use Rattle.lapd_clock.specs.Timer.{T200, T203, T201, T202, Call, Packet}

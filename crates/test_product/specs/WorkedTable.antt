@@ -4,7 +4,6 @@ use Rattle.std.specs.Prelude.{◌≡◌, ℕ, ◌/◌, ◌%◌, ◌&&◌, ◌||�
 use Rattle.std.specs.List.{range_with_len}
 use Rattle.lapd_seq.specs.declared.numbers.Seq.{Seq}
 use Rattle.lapd_seq.specs.Numbers.{seq}
-use Rattle.lapd_frame.specs.declared.addresses.Side.{Side}
 use Rattle.lapd_frame.specs.declared.addresses.Address.{Address}
 use Rattle.lapd_frame.specs.declared.addresses.Side.TheVariants.{User}
 use Rattle.lapd_frame.specs.declared.controls.Control.{Control}

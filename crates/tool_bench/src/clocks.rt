@@ -1,6 +1,6 @@
 //! A clock on which a timer of each line runs.
 
-ghost use Rattle.std.specs.Prelude.{◌≡◌, ◌<◌, ◌≤◌, ◌^◌};
+ghost use Rattle.std.specs.Prelude.{◌<◌, ◌≤◌, ◌^◌};
 
 use crate::done::Done;
 use crate::fault::Fault;

@@ -1,8 +1,8 @@
 //! The places of a line, for a caller who does not know at which of them a timer runs.
 
-ghost use Rattle.std.specs.Prelude.{◌≡◌, ◌≤◌, ◌<◌, length, All, HoldsAt, IfSome, IfNone};
+ghost use Rattle.std.specs.Prelude.{◌≡◌, ◌<◌, length, All, HoldsAt, IfSome, IfNone};
 ghost use Rattle.lapd_clock.specs.Firsts.{never};
-ghost use Rattle.lapd_clock.specs.OwnPlaces.{at, expiry_of, is_nowhere, is_full, IsHeldAt, IsPlaceFor, RestsAt, RunsAt};
+ghost use Rattle.lapd_clock.specs.OwnPlaces.{at, is_nowhere, is_full, IsHeldAt, IsPlaceFor, RestsAt, RunsAt};
 
 use super::Moments;
 use super::place::{Place, running_place};

@@ -1,7 +1,7 @@
 -- The words with which the proofs of this crate speak, from where they are defined.
 pub use Rattle.std.proofs.Common.{Bool, Err, List, None, Ok, Option, Result, Some, [], ap, append-nil, append_assoc, arith, cond, drop, false, filter_map, get_or, if◌then◌else◌, inl, inr, length, length-append, map, nat_le, nat_lt, not, option_to_list, refl, replicate, subst, suc, sym, take, true, zero, ℕ, ◌%◌, ◌&&◌, ◌*◌, ◌++◌, ◌+◌, ◌-◌, ◌<◌, ◌==◌, ◌^◌, ◌∙◌, ◌∷◌, ◌≡◌, ◌≤◌, ◌⊎◌}
 pub use Rattle.std.proofs.Math.Seq.{drop-append_seam, take-append_seam}
-pub use Rattle.std.proofs.lemmas.Bool.{eq-eqb, eqb-true, le-leb, leb-false, leb-true, lt-ltb, ltb-true, true≢false}
+pub use Rattle.std.proofs.lemmas.Bool.{eq-eqb, eqb-true, le-leb, leb-false, lt-ltb, ltb-true, true≢false}
 pub use Rattle.std.proofs.lemmas.Bool.Decides.{nat_tests}
 pub use Rattle.std.proofs.lemmas.Fmt.{decimal_nonempty, digits_decimal, digits_value-decimal}
 pub use Rattle.std.proofs.lemmas.List.{drop_at}
@@ -21,7 +21,6 @@ pub use Rattle.lapd_clock.specs.Timer.{AreInRange, Lengths, Order, Start, Stop, 
 pub use Rattle.lapd_clock.specs.Timers.{Expiry, Timers, first_due, is_before, without}
 unfoldable pub use Rattle.lapd_clock.specs.Timers.{with_order}
 pub use Rattle.lapd_clock.specs.declared.fault.LengthFault.{LengthFault}
-pub use Rattle.lapd_frame.specs.declared.addresses.Side.TheVariants.{Network, User}
 pub use Rattle.lapd_script.specs.Job.{Job, frame, job, job_or_none, limits, limits_of, run}
 pub use Rattle.lapd_script.specs.Number.{number}
 pub use Rattle.lapd_script.specs.Pieces.{line_in, pieces_of}
@@ -48,7 +47,7 @@ pub use Rattle.model_line.specs.declared.config.Field.{Field}
 pub use Rattle.model_line.specs.declared.config.Field.TheVariants.{Control, Lines, N201, Slots, Terminals}
 unfoldable pub use Rattle.model_link.specs.Told.{starts}
 pub use Rattle.lapd_sim.specs.machine.Asked.{LimitsAreOfCards, limits_of_card, limits_words}
-pub use Rattle.lapd_sim.specs.machine.Board.{AreAtLines, Board, Event, IsAtLine, Moment, What, after, at, expiry, frame_event, frames_after, fresh, hears, next, octet, octet_event, octets_after, of_frames, of_octets, orders_in, pull, reply_of_frames, reply_of_octets, request}
+pub use Rattle.lapd_sim.specs.machine.Board.{AreAtLines, Board, Event, IsAtLine, What, after, at, expiry, frame_event, frames_after, fresh, hears, next, octet, octet_event, octets_after, of_frames, of_octets, orders_in, pull, reply_of_frames, reply_of_octets, request}
 unfoldable pub use Rattle.lapd_sim.specs.machine.Board.{after_all, moments, reply}
 pub use Rattle.lapd_sim.specs.machine.Events.{AreEventsOf, HasRun, RunsOnBoards, ScriptsAreRuns, board_meant, board_of_frames, board_of_octets, coming_events, events_from, events_until, expiry_events, first_board, line_events, meant_events, moment_of_frames, moment_of_octets, read_events, script_events, unless_fault}
 pub use Rattle.lapd_sim.specs.machine.Heard.{FramesAreHeard, all_sent}

@@ -173,7 +173,7 @@ impl TerminalTeis {
 
     /// The line is down (Q.921 annex B, persistent deactivation): the messages that wait are given up, and a procedure
     /// that runs ends without a result. The TEIs stay on the line.
-    #[tactic(auto, unfolding(model_teis::specs::terminal::Events::course), using(model_teis::proofs::OfTerminal::SoundWords::down_is, model_teis::proofs::OfTerminal::GivenUp::given_up))]
+    #[tactic(auto, unfolding(model_teis::specs::terminal::Events::course), using(crate::proofs::OfTerminal::Down::down_is, model_teis::proofs::OfTerminal::GivenUp::given_up))]
     pub fn give_up(&mut self) -> TeiOutcome
         ensures told { told_of result ≡ told down self.old }
         ensures after { self.new ≡ after down self.old }

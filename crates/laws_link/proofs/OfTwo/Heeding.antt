@@ -1,6 +1,6 @@
 -- Where T200 runs while the terminal is taken for busy: each word, and each row.
-use Rattle.laws_link.proofs.Vocabulary.{arith, ◌≡◌, ℕ, Bool, true, false, cond, IsTrue, List, Option, Some, refl, sym, subst, Seq, Control, Sabme, Disc, Ui, Ua, Dm, Frmr, Xid, Note, State, TeiAssigned, AwaitingEstablishment, AwaitingRelease, Established, TimerRecovery, LinkTimer, T200, T203, Terms, Course, Step, ◌then◌, frame_in_5, Leads, keeping_then, nothing_leads}
-use Rattle.laws_link.proofs.Vocabulary.{depending_leads, bit_leads, read_leads, to_less, HeedsIn, leaves, number_leads, acknowledge, by_number, clear_flags, enter, no_timer, note, peer_busy_is, re_establish, start, acknowledged_by_information_in_7, acknowledged_by_rej_in_7, acknowledged_by_rnr_in_7, acknowledged_in_7, frame_in_7, acknowledged_in_8, frame_in_8}
+use Rattle.laws_link.proofs.Vocabulary.{arith, ◌≡◌, ℕ, Bool, false, IsTrue, List, Option, Some, refl, sym, subst, Seq, Control, Sabme, Note, State, TeiAssigned, AwaitingEstablishment, AwaitingRelease, Established, TimerRecovery, LinkTimer, T200, Terms, Course, Step, ◌then◌, frame_in_5, Leads, keeping_then, nothing_leads}
+use Rattle.laws_link.proofs.Vocabulary.{depending_leads, bit_leads, read_leads, to_less, HeedsIn, leaves, number_leads, by_number, clear_flags, enter, no_timer, note, re_establish, start, frame_in_7, frame_in_8}
 
 -- A claim on the state, on whether the terminal is taken for busy, and on the timer that runs.
 abbrev pub Claim : Type 1

@@ -1,7 +1,7 @@
 -- What keeps a link in states 7 and 8: each word, each row of a frame whose N(R) is valid, and each mild event.
-use Rattle.laws_link.proofs.Vocabulary.{arith, ◌≡◌, ℕ, ◌≤◌, Bool, true, false, cond, IsTrue, List, length, Option, None, Some, refl, sym, subst, true≢false, le-ltb, Seq, seq, named, Control, Information, ReceiveReady, ReceiveNotReady, Reject, Refusal, WrongState, State, Established, TimerRecovery, LinkTimer, ControlFrame, Terms, Link, is_multiple_frame, may_repeat, Request, Establish, expired}
+use Rattle.laws_link.proofs.Vocabulary.{arith, ◌≡◌, ℕ, ◌≤◌, Bool, true, cond, IsTrue, List, length, Option, None, Some, refl, sym, subst, true≢false, le-ltb, Seq, seq, named, Control, Information, Refusal, WrongState, State, Established, TimerRecovery, LinkTimer, ControlFrame, Terms, Link, is_multiple_frame, may_repeat, Request, Establish, expired}
 use Rattle.laws_link.proofs.Vocabulary.{with_counted, with_expiry}
-use Rattle.laws_link.proofs.Vocabulary.{requested, offer, Course, begun, Step, ◌then◌, Leads, keeping_then, nothing_leads, depending_leads, bit_leads, Means, IsNotRelease, leaves, both_ways, acknowledge, by_number, enter, contents_in_7_8, information_in_7_8, supervisory, acknowledged_by_information_in_7, frame_in_7, particulars_in_7, frame_in_8, particulars_in_8, granted, refusal, offer_among}
+use Rattle.laws_link.proofs.Vocabulary.{requested, offer, Course, begun, Step, ◌then◌, Leads, keeping_then, nothing_leads, depending_leads, bit_leads, Means, IsNotRelease, leaves, both_ways, by_number, enter, contents_in_7_8, information_in_7_8, acknowledged_by_information_in_7, frame_in_7, frame_in_8, granted, refusal, offer_among}
 use Rattle.laws_link.proofs.Vocabulary.{course, expired_in, frame_in, frame_step, is_running}
 
 abbrev IsUpIn : Course → Type 0

@@ -2,10 +2,10 @@
 use Rattle.laws_order.proofs.Vocabulary.{arith, ◌≡◌, ◌==◌, ℕ, ◌<◌, Bool, cond, List, [], ◌∷◌, ◌++◌, length, Option, None, Some, option_map, option_to_list, refl, sym, ap, ◌∙◌, append-nil, append_assoc, eq-eqb, flat_map, flat_map-append, Config, Service, OctetCard, port_at, said, Answer, heard_with, heard_in, Seen, IsNotOf, stream_frame, StreamEvent, Port, PortEvent}
 use Rattle.laws_order.proofs.Vocabulary.{port_octet, port_after, ne_eqb, heard_by, octet_come, by_port, config_after, ports_after}
 use Rattle.model_line.specs.Event as line
-unfoldable use Rattle.model_card.specs.ports.Card.{after, meant}
+unfoldable use Rattle.model_card.specs.ports.Card.{after}
 use Rattle.model_card.specs.ports.Event.{Event}
 use Rattle.laws_order.specs.circuit.Damaged as damaged
-use Rattle.laws_order.specs.circuit.Damaged.{Endpoint as NoisyEndpoint, Step as NoisyStep, happens, completes, elsewhere, loses, meaning, stands_with, HasReceived, IsElsewhere, heard_among, with_event, with_step, seen_of, seen_by}
+use Rattle.laws_order.specs.circuit.Damaged.{Endpoint as NoisyEndpoint, Step as NoisyStep, happens, completes, elsewhere, loses, meaning, HasReceived, IsElsewhere, heard_among, with_event, with_step, seen_of, seen_by}
 
 -- ---- what an event means is what stands in the octets that came
 

@@ -1,7 +1,7 @@
 -- What is in a list of assignments, and what passes a test in a list.
-use Rattle.std.specs.Prelude.{◌≡◌, ℕ, zero, suc, ◌==◌, ◌&&◌, ◌||◌, ◌≤◌, ◌⊎◌, not, Bool, true, false, cond, List, [], ◌∷◌, ◌++◌, length, filter, drop, Some, None, refl}
+use Rattle.std.specs.Prelude.{◌≡◌, ℕ, zero, suc, ◌==◌, ◌&&◌, ◌||◌, ◌⊎◌, not, Bool, true, false, cond, List, [], ◌∷◌, ◌++◌, filter, drop, Some, None, refl}
 use Rattle.std.specs.List.{list_any, find}
-use Rattle.std.proofs.Common.{inl, inr, subst, sym, ap, ◌∙◌, arith, true≢false, eqb-true, eq-eqb}
+use Rattle.std.proofs.Common.{inl, inr, subst, sym, ap, ◌∙◌, true≢false, eqb-true, eq-eqb}
 use Rattle.std.proofs.lemmas.List.Folds.{list_any-append}
 use Rattle.model_teis.specs.declared.network.remembered.Remembered.{Remembered}
 use Rattle.std.proofs.lemmas.Bool.{and_parts}
@@ -49,11 +49,6 @@ pub in-dropped : (k : ℕ) (r : Remembered) (xs : List Remembered) → IsIn r (d
 in-dropped zero r xs is = is
 in-dropped (suc k) r [] is = is
 in-dropped (suc k) r (x ∷ xs) is = inr (in-dropped k r xs is)
-
-pub in-end : (k : ℕ) (r : Remembered) (xs : List Remembered) → k ≤ length xs → IsIn r (drop k (xs ++ r ∷ []))
-in-end zero r xs few = in-right r xs (r ∷ []) (inl refl)
-in-end (suc k) r [] few = absurd (omega (arith, few))
-in-end (suc k) r (x ∷ xs) few = in-end k r xs (omega (arith, few))
 
 pub in-found : (p : Remembered → Bool) (r : Remembered) (xs : List Remembered) → find p xs ≡ Some r → IsIn r xs × (p r ≡ true)
 in-found p r [] found = absurd (none-is found)

@@ -20,7 +20,7 @@ use Rattle.model_card.specs.Machine.{answer}
 use Rattle.model_card.specs.Run.{after_all, moments, IsAtLine, AreAtLines}
 use Rattle.laws_trace.specs.LinkFrames.{reads}
 use Rattle.laws_trace.specs.Managing as managing
-use Rattle.laws_trace.specs.Managing.{Managed, nothing_due, none_on, due, led, managed_after, octets_of, own_of, at_terminal}
+use Rattle.laws_trace.specs.Managing.{Managed, nothing_due, due, managed_after, octets_of, at_terminal}
 use Rattle.laws_trace.specs.ManagingTerminal.{teis_of}
 use Rattle.laws_trace.specs.TeisAreManaged.{message_text}
 use Rattle.laws_trace.specs.Trace.{frame_in}

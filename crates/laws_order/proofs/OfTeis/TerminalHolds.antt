@@ -8,7 +8,7 @@ use Rattle.model_line.specs.Came.{came}
 use Rattle.model_line.specs.Event.{Event, hears}
 use Rattle.laws_trace.specs.Managing.{Managed, is_on, due, own_of}
 use Rattle.laws_trace.specs.ManagingTerminal as terminal
-use Rattle.laws_trace.specs.ManagingTerminal.{OfTerminal, teis_of, by_event, by_message}
+use Rattle.laws_trace.specs.ManagingTerminal.{OfTerminal, teis_of, by_message}
 use Rattle.laws_order.specs.teis.Bus.{Bus, Network, message_in, is_heard, over_of}
 use Rattle.laws_order.specs.teis.Assignments.{Terminal, CanMeet, IsIn, taken_by, taken, with_given}
 use Rattle.laws_order.proofs.OfTeis.Frames.{assigned-few}

@@ -1,6 +1,6 @@
 -- Before the call nothing is asked: no frame goes, no timer runs, and nothing is told but what noise makes.
 use Rattle.laws_time.proofs.Vocabulary.{All, All-nil, AreAsked, AreClear, Beat, Clocked, Config, Establish, FrameEndpoint, IsClearAt, IsFit, IsFrame, IsIdle as AsksNothing, IsInRange, IsOfLink, IsTalk, Lengths, Line, List, None, OctetEndpoint, Option, Ran, Request, Service, Some, StationStands, TimedEndpoint, [], after, answered, ap, append-nil, arith, as_endpoint}
-use Rattle.laws_time.proofs.Vocabulary.{asked, at, beat, begins, calls, comes_to, cond, drop, endpoint, fall_due, false, flags, fold-append, fresh_link, gained, gave, gives-none, gone, happens, hears, is_due, length, line_after, line_answer, next, obeyed, octet_at, octet_orders, option_map, orders_in, port_of, refl, set-get_or, stopped, subst, sym, takes_slot, true, unwrap_or, ℕ, ◌++◌}
+use Rattle.laws_time.proofs.Vocabulary.{asked, at, beat, begins, calls, comes_to, cond, drop, endpoint, fall_due, false, fold-append, fresh_link, gained, gave, gives-none, gone, happens, hears, is_due, length, line_after, line_answer, next, obeyed, octet_at, octet_orders, option_map, orders_in, port_of, refl, set-get_or, stopped, subst, sym, takes_slot, true, unwrap_or, ℕ, ◌++◌}
 use Rattle.laws_time.proofs.Vocabulary.{◌+◌, ◌/◌, ◌<◌, ◌∙◌, ◌∷◌, ◌≡◌, ◌≤◌, by-bool, by-either, some-in}
 use Rattle.model_bits.specs.Stream as stream
 use Rattle.model_line.specs.Event as line

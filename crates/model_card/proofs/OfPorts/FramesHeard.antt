@@ -8,8 +8,8 @@ use Rattle.std.proofs.Common.{append-nil, drop, length-drop, take-append-drop}
 use Rattle.std.proofs.lemmas.List.{length-take-le, take_at}
 use Rattle.model_bits.proofs.BitLemmas.{length-bits}
 use Rattle.std.proofs.lemmas.Option.{same_Some}
-use Rattle.std.specs.Prelude.{◌≢◌, ◌⊎◌, ◌||◌, ◌&&◌, nat_eq, slice_index, cond, nat_lt, option_to_list, option_map, option_and_then, Option, Some, None}
-use Rattle.model_bits.specs.Stream.{Event, dropped, ends_flag, since_flag, has_abort, gap_event, closed_by_flag, given_up, heard_at as heard_bit}
+use Rattle.std.specs.Prelude.{◌≢◌, ◌||◌, ◌&&◌, nat_eq, slice_index, cond, nat_lt, option_to_list, option_map, option_and_then, Option, Some, None}
+use Rattle.model_bits.specs.Stream.{Event, dropped, ends_flag, since_flag, gap_event, closed_by_flag, given_up, heard_at as heard_bit}
 use Rattle.model_line.specs.declared.faults.Fault.TheVariants.{Fcs, Abort, Ragged, Short}
 use Rattle.model_card.specs.ports.Codec.{heard_at}
 use Rattle.model_card.proofs.OfPorts.Codec.{run_goes_on}

@@ -3,7 +3,7 @@ pub use Rattle.std.proofs.Common.{Bool, IfSome, List, None, Option, Some, [], ap
 pub use Rattle.std.proofs.Common.{◌&&◌, ◌*◌, ◌++◌, ◌+◌, ◌-◌, ◌/◌, ◌<◌, ◌==◌, ◌∙◌, ◌∷◌, ◌≡◌, ◌≤◌, ◌⊎◌}
 pub use Rattle.std.proofs.Math.Nat.{mul-le-mul_left, mul-le-mul_right}
 pub use Rattle.std.proofs.Math.Seq.{drop-append_seam}
-pub use Rattle.std.proofs.lemmas.Bool.{and_left, cases_lt, le-ltb, leb-true, lt-ltb, ltb-false, ltb-true, ne_eqb, or_from}
+pub use Rattle.std.proofs.lemmas.Bool.{cases_lt, le-ltb, leb-true, lt-ltb, ltb-false, ltb-true, ne_eqb}
 pub use Rattle.std.proofs.lemmas.Grind.{flat_map-append}
 pub use Rattle.std.proofs.lemmas.List.{append_cancel_left, get_or-replicate, get_or-set_other, get_or-set_same, length-replicate, length-take-le, map-append, take-append-drop, take_at}
 pub use Rattle.std.proofs.lemmas.List.Elements.{All-append, All-cons, All-get_or, All-head, All-nil, All-push, All-replicate, All-set, All-tail, All-take}
@@ -57,7 +57,7 @@ pub use Rattle.model_card.specs.ports.Stored.{held_at, held_received, held_sent,
 pub use Rattle.model_card.specs.ports.Whole.{IsIdle, fault_octets, line_octets}
 pub use Rattle.model_card.specs.ports.WholeLaws.{AreHeardAs, FramesAreHeard}
 pub use Rattle.model_card.specs.Counts.{accepted, expired, heard, may_send, rejected, sent, window}
-pub use Rattle.model_card.specs.ports.GoingOut.{AllGivenAreHeard, GivenFramesAreHeard, GivenGoOut, GoOut, OfEachLine, answer_of_call, as_octets, call_answered, calls_answered, frames_to_hear, octets_given}
+pub use Rattle.model_card.specs.ports.GoingOut.{AllGivenAreHeard, GivenFramesAreHeard, GivenGoOut, GoOut, answer_of_call, as_octets, call_answered, calls_answered, frames_to_hear, octets_given}
 pub use Rattle.model_card.specs.ports.Promises.{HasSevenOctetsAReject, HasSixOctetsAFrame, IsLinear, moments_meant}
 pub use Rattle.model_card.specs.ports.Reached.{IsReached}
 pub use mathlib.Core.List.{reverse_aux}

@@ -1,5 +1,5 @@
 -- What whole octets are heard as: a frame, if they are enough for one and there is room for them.
-use Rattle.model_card.proofs.OfPorts.Vocabulary.{◌≡◌, ◌⊎◌, ℕ, ◌+◌, ◌%◌, ◌≤◌, ◌<◌, Bool, true, false, not, cond, nat_lt, List, [], ◌∷◌, length, take, inl, inr, refl, ap, ◌∙◌, arith, eq-eqb, ne_eqb, le-ltb, lt-ltb, came}
+use Rattle.model_card.proofs.OfPorts.Vocabulary.{◌≡◌, ◌⊎◌, ℕ, ◌+◌, ◌%◌, ◌≤◌, ◌<◌, true, false, not, cond, nat_lt, List, [], ◌∷◌, length, take, inl, inr, refl, ap, ◌∙◌, arith, eq-eqb, ne_eqb, le-ltb, lt-ltb}
 use Rattle.std.specs.Prelude.{◌≢◌, slice_index}
 use Rattle.lapd_frame.specs.Faults as without_check
 use Rattle.model_bits.specs.Stream as stream

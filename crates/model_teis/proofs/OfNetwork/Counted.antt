@@ -179,9 +179,6 @@ counts e m =
 lowest-left : (places : Places) (tei : ℕ) (o : Option ℕ) → AssignsLowest places (option_map (left tei) o)
 lowest-left places tei o = grind arith
 
-lowest-leaves : (m : Management) (tei : ℕ) (d : Course) → d.now.places ≡ m.places → AssignsLowest m.places (leave tei d).told.change
-lowest-leaves m tei d same = lowest-left m.places tei (place_of tei d.now.places)
-
 pub lowest-hear : (octets : List ℕ) (m : Management) → AssignsLowest m.places (hear octets (begun m)).told.change
 lowest-hear octets m = of_hear m (λ c. AssignsLowest m.places c.told.change) (record {
   is_unserved = tt;

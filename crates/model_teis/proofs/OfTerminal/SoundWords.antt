@@ -209,9 +209,6 @@ verified_is m tei attempts waiting e on may least most sound =
 pub rest_is : (m : Terminal) (waiting : List Message) → waiting ≡ drop 1 m.waiting → IsSound m → IsSound (record m { waiting = waiting })
 rest_is m waiting e sound = subst (λ w. IsSound (record m { waiting = w })) (sym e) (sound_rest m sound)
 
-pub down_is : (m : Terminal) (waiting : List Message) → waiting ≡ [] → IsSound m → IsSound (record m { procedure = None; waiting = waiting })
-down_is m waiting e sound = subst (λ w. IsSound (record m { procedure = None; waiting = w })) (sym e) (sound_down m sound)
-
 -- The room that each message needs.
 pub room_to_ask : (m : Terminal) (attempts : ℕ) → may_ask m.procedure ≡ true → 1 ≤ attempts → attempts ≤ 3 → IsSound m → length (with_request m.number m.waiting) ≤ 9
 room_to_ask m attempts may least most sound = few_messages _ (sound_asked m attempts may least most sound)

@@ -1,5 +1,5 @@
 -- Hand-written answers for `sapi_numbers`.
-use Rattle.lapd_script.proofs.Vocabulary.{arith, length, refl, ap, sym, ◌∙◌, get_or, ◌-◌}
+use Rattle.lapd_script.proofs.Vocabulary.{arith, length, refl, ap, sym, ◌∙◌, ◌-◌}
 use Rattle.lapd_script.specs.Read.{for_sapi}
 use Rattle.lapd_script.proofs.ReadLemmas.{at, sapi_read}
 use Rattle.lapd_script.proofs.read.sapi_numbers.Goals as goal

@@ -1,6 +1,6 @@
 //! The procedure that runs in an image of its card.
 
-ghost use Rattle.std.specs.Prelude.{◌≡◌, ◌≤◌, Some, [], ◌∷◌, length, IfOk, OnErr};
+ghost use Rattle.std.specs.Prelude.{◌≤◌, Some, [], ◌∷◌, length, IfOk, OnErr};
 ghost use Rattle.lapd_image.specs.Puts.{Puts};
 ghost use Rattle.lapd_image.specs.Reads.{HasNone, IsReadAs};
 ghost use Rattle.model_teis.specs.terminal.Image.{procedure};

@@ -1,6 +1,6 @@
 //! TEI management of a terminal in an image of its card.
 
-ghost use Rattle.std.specs.Prelude.{◌≡◌, ◌≤◌, length, OnOk, OnErr};
+ghost use Rattle.std.specs.Prelude.{◌≤◌, length, OnOk, OnErr};
 ghost use Rattle.model_teis.specs.terminal.Image.{image, IsSavedOf};
 ghost use Rattle.lapd_image.specs.Puts.{Puts};
 ghost use Rattle.lapd_image.specs.Reads.{IsReadAs, HasNone};

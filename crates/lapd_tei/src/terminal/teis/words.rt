@@ -1,6 +1,6 @@
 //! The words of which the rows of the table are made.
 
-ghost use Rattle.std.specs.Prelude.{◌≡◌, ◌≤◌, ◌<◌, true, false, Some, None, set, option_map};
+ghost use Rattle.std.specs.Prelude.{◌≡◌, ◌≤◌, ◌<◌, true, false, Some, None};
 ghost use Rattle.lapd_tei.specs.{is_on, free_place, left};
 ghost use Rattle.model_teis.specs.terminal.Machine.{place};
 ghost use Rattle.model_teis.specs.terminal.Numbers.{next_number};

@@ -3,7 +3,7 @@ use Rattle.std.proofs.Common.{rules}
 use Rattle.std.proofs.Math.Seq.{take-append_seam}
 use Rattle.model_bits.specs.Bits.{octets_of}
 use Rattle.lapd_bits.specs.Reading.{octets_behind}
-use Rattle.lapd_bits.proofs.Vocabulary.{◌≡◌, ℕ, ◌+◌, ◌≤◌, ◌<◌, List, ◌++◌, length, take, drop, sym, ap, ◌∙◌, subst, length-append, length-low_bits, refl, arith, bits, flag, frame_text, unstuffed, Goes, last_ones, waits, made, to_give}
+use Rattle.lapd_bits.proofs.Vocabulary.{◌≡◌, ℕ, ◌+◌, ◌≤◌, List, ◌++◌, length, take, drop, sym, ap, ◌∙◌, subst, length-append, length-low_bits, refl, arith, bits, flag, frame_text, unstuffed, Goes, last_ones, waits, made, to_give}
 use Rattle.lapd_bits.proofs.FramerGiven.{length_to_give, to_give-none}
 use Rattle.lapd_bits.proofs.FramerLoad.{both_octets, frame_first, frame_made, written_back}
 use Rattle.lapd_bits.proofs.FramerStands.{Stands-load, begun_by}

@@ -1,5 +1,5 @@
 -- Hand-written answers for `Reading::octet`.
-use Rattle.lapd_bits.proofs.Vocabulary.{◌≡◌, ◌+◌, ◌++◌, ◌∷◌, [], refl, ap, sym, ◌∙◌, subst, append_assoc, arith, low_bits}
+use Rattle.lapd_bits.proofs.Vocabulary.{◌≡◌, ◌+◌, ◌++◌, ◌∷◌, [], refl, ap, sym, ◌∙◌, append_assoc, arith, low_bits}
 use Rattle.lapd_bits.specs.Reading.{left_to_read}
 use Rattle.lapd_bits.proofs.ReadBack.{bits_left, one_bit_more}
 use Rattle.lapd_bits.proofs.reading.Reading.octet.Goals as goal

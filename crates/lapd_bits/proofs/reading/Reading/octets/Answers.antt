@@ -1,5 +1,5 @@
 -- Hand-written answers for `Reading::octets`.
-use Rattle.lapd_bits.proofs.Vocabulary.{◌+◌, refl, arith, length}
+use Rattle.lapd_bits.proofs.Vocabulary.{refl, length}
 use Rattle.model_bits.specs.Bits.{octets_of}
 use Rattle.lapd_bits.specs.Reading.{left_to_read}
 use Rattle.lapd_bits.proofs.ReadBack.{all_written, eight_left, written_more}

@@ -1,7 +1,7 @@
 -- Hand-written answers for `LinkLayer::manage`.
 use Rattle.lapd_line.proofs.Vocabulary.{◌≡◌, true, false, [], asked_aim}
 use Rattle.lapd_line.specs.Requests.{is_bad, may_ask}
-use Rattle.lapd_line.proofs.LayerRequests.{wrong_side, bad_one, by_management}
+use Rattle.lapd_line.proofs.LayerRequests.{by_management}
 use Rattle.lapd_line.proofs.link_layer.LinkLayer.manage.Goals as goal
 
 pub change-requires-clause-changing : goal.change-requires-clause-changing

@@ -1,5 +1,5 @@
 -- Hand-written answers for `LinkLayer::take_waiting_message`.
-use Rattle.lapd_line.proofs.Vocabulary.{[], Some, message_taken, Takes, orders_taken, sym, subst}
+use Rattle.lapd_line.proofs.Vocabulary.{Some, message_taken, Takes, orders_taken, sym, subst}
 use Rattle.lapd_line.proofs.MessageTakes.{message_loaded, no_message_loaded}
 use Rattle.lapd_line.proofs.link_layer.LinkLayer.take_waiting_message.Goals as goal
 

@@ -1,5 +1,5 @@
 -- Hand-written answers for `Entity::zero_numbers`.
-use Rattle.lapd_link_steps.proofs.Vocabulary.{true, link_of, course_of, ◌≤◌, length, refl, sym, ap, subst, drop, ◌∙◌}
+use Rattle.lapd_link_steps.proofs.Vocabulary.{true, link_of, course_of, ◌≤◌, length, sym, ap, subst, drop, ◌∙◌}
 use Rattle.model_link.specs.declared.counts.LinkCounts.{LinkCounts}
 use Rattle.model_link.specs.Words.{with_zero}
 use Rattle.lapd_link_steps.proofs.Queue.{released_more, still_beyond}

@@ -5,8 +5,8 @@ ghost use Rattle.lapd_frame.specs.Services.{letter_of};
 
 use crate::services::Service;
 
-/// What happened on a line, as its user is told. The number is the TEI that it is about. At a terminal's line the network is
-/// the other side: there [`Note::Assigned`] and [`Note::Removed`] tell what it did with a TEI of this terminal.
+/// What happened on a line, as its user is told. The number is the TEI that it is about. At a terminal's line the other side
+/// is the network: there [`Note::Assigned`] tells a TEI that it assigned to this terminal.
 #[derive(Clone, Copy, PartialEq, Eq, Debug)]
 pub enum Note {
     /// The link is established without a request for it, by the terminal; or it is established again, by the
@@ -30,7 +30,7 @@ pub enum Note {
     /// TEI management assigned the TEI to a terminal that asked for one (clause 5.3.2).
     Assigned(u8),
     /// The TEI left the line, since no terminal answered an identity check (clauses 5.3.3.2 and 5.3.4). At a terminal: since the
-    /// network removed it, or did not answer as often as it was asked to check it (clause 5.3.5).
+    /// network removed it, or answered none of the requests to check it (clause 5.3.5).
     Removed(u8),
     /// The TEI left the line, since two terminals answered an identity check (clause 5.3.4).
     Doubled(u8),

@@ -66,6 +66,7 @@ pub record Went (moment : ℕ) (old new : TimedCard) : Type 0 where
 -- It keeps its own timers. The time has come to this moment, and nothing is due then.
 pub record FindsNone (moment : ℕ) (old new : TimedCard) : Type 0 where
   pub timed : keeps_timers old ≡ true
+  pub may : (moment_of old.timers ≤ moment) × (moment < 2 ^ 63)
   pub went : Went moment old new
   pub none : (m : Card) (c : Clock) → TimersStandIn old.timers m c → (c.now ≤ moment) × (moment < 2 ^ 63) × (due (at_moment moment c) ≡ None)
 

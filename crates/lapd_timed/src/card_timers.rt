@@ -120,6 +120,7 @@ impl CardTimers {
     pub fn pass(&mut self, moment: u64) -> bool
         ensures passed { result ≡ true → (m : Card) (c : Clock) → TimersStand self.old m c
             → (c.now ≤ moment) × (moment < 2 ^ 63) × (due (at_moment moment c) ≡ None) × TimersStand self.new m (at_moment moment c) }
+        ensures later { result ≡ true → (self.old.moment ≤ moment) × (moment < 2 ^ 63) }
         ensures now { result ≡ true → self.new.moment ≡ moment }
         ensures stays { result ≡ false → self.new ≡ self.old }
         ensures lines { self.new.lines ≡ self.old.lines }

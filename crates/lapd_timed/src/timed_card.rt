@@ -57,7 +57,7 @@ impl TimedCard {
     ghost use Rattle.lapd_timed.specs.TimedStands.{Steps};
 
     /// A card that has just begun, and the timers of it: of as many lines and terminals, none of which runs. With timers of
-    /// fewer terminals nothing would start those that are missing, and no clause speaks of such a card.
+    /// fewer terminals nothing would start those that are missing, and few clauses speak of such a card.
     pub fn new(card: AnyCard, timers: CardTimers) -> TimedCard
         requires { timers.lines ≡ line_count card }
         ensures card { result.card ≡ card }

@@ -186,6 +186,7 @@ module _ (t : OfTerminal) (quiet : t.notes ≡ []) where
           each true = refl
           each false = refl
 
+  -- Nothing else takes one.
   ran-out-takes : (p : Option Procedure) → takes t (ran_out p t) ≡ []
   ran-out-takes None = none-taken t quiet
   ran-out-takes (Some (Asking ri n)) = go (nat_lt n 3)

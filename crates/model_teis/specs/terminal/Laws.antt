@@ -50,11 +50,12 @@ after_acts (act ∷ acts) m = after_acts acts (after_act act m)
 abbrev pub IsSoundThroughout : Type 0
 IsSoundThroughout = (terminals seed : ℕ) (acts : List Act) → terminals ≤ 8 → seed < 65536 → AreInRange acts → IsSound (after_acts acts (fresh terminals seed))
 
--- and a place more than the line may have TEIs is enough for the messages that wait, so none is ever lost.
+-- and a place more than the line may have TEIs is enough for the messages that wait.
 abbrev pub RoomIsEnough : Type 0
 RoomIsEnough = (terminals seed : ℕ) (acts : List Act) → terminals ≤ 8 → seed < 65536 → AreInRange acts
     → length (after_acts acts (fresh terminals seed)).waiting ≤ terminals + 1
 
+-- So none is told as lost.
 abbrev pub NoneIsLost : Type 0
 NoneIsLost = (e : Event) (m : Terminal) → (told e m).lost ≡ 0
 

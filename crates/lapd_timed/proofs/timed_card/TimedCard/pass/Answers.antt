@@ -1,7 +1,7 @@
 -- The time has come to a moment, and nothing is due.
 use Rattle.std.proofs.Common.{ap, refl, sym, subst}
-use Rattle.std.specs.Prelude.{is_some}
-use Rattle.lapd_timed.specs.Stands.{TimersStandIn}
+use Rattle.std.specs.Prelude.{◌≤◌, ◌<◌, ◌^◌, is_some}
+use Rattle.lapd_timed.specs.Stands.{moment_of, TimersStandIn}
 use Rattle.lapd_timed.proofs.MarkedSteps.{still-marked}
 use Rattle.lapd_timed.proofs.Steps.{time-steps}
 use Rattle.lapd_timed.proofs.timed_card.TimedCard.pass.Goals as goal
@@ -9,6 +9,7 @@ use Rattle.lapd_timed.proofs.timed_card.TimedCard.pass.Goals as goal
 pub returns-in-Some-clause-passed : goal.returns-in-Some-clause-passed
 returns-in-Some-clause-passed c = λ is. record {
   timed = ap is_some c.in-Some.is;
+  may = subst (λ o. (moment_of o ≤ c.args.moment) × (c.args.moment < 2 ^ 63)) (sym c.in-Some.is) (c.pass.ensures.later is);
   went = record {
     card = refl;
     now = λ keeps. c.pass.ensures.now is;

@@ -2,8 +2,8 @@
 -- of a card's own timers; what statuses tell; how a card is saved, and what comes back.
 pub mod Vocabulary
 pub mod Machine
-pub mod Places
 pub mod SlotPlaces
+pub mod Heap
 pub mod Contents
 pub mod WholeFrames
 pub mod Timing

@@ -8,15 +8,12 @@ pub use Rattle.std.specs.Option.{option_map_or, option_or}
 pub use Rattle.std.specs.contracts.impls.GlobalAllocator.TheImpl.{ghosts}
 pub use Rattle.std.specs.declared.option.Option.TheVariants.{Some}
 pub use Rattle.std_alloc.proofs.BoxSteps.Steps.{box_in, box_out}
-pub use Rattle.std_alloc.proofs.ResultValues.{and_tt}
-pub use Rattle.std_alloc.proofs.boxed.Box.from_raw.Met.{met}
 pub use Rattle.std_alloc.specs.Box.Ownership.{box_owns}
-pub use Rattle.core.proofs.alloc.Calls.{Al, Goes-blank, handle_tells}
+pub use Rattle.core.proofs.alloc.Calls.{Al, Goes-blank}
 pub use Rattle.core.proofs.alloc.Shapes.{after}
 pub use Rattle.core.proofs.atomic.Steps.{fm}
 pub use Rattle.core.proofs.cell.Inside.{Good, one}
-pub use Rattle.core.specs.declared.alloc.Allocator.{Ghosts}
-pub use Rattle.lapd_c.specs.Slots.{HeldCard, HeldClock, card_row, clock_row, heap, slot_owns}
+pub use Rattle.lapd_c.specs.Slots.{HeldCard, card_row, clock_row, heap, slot_owns}
 pub use Rattle.lapd_c.specs.Answers.{ShowsAnswer, ShowsReply}
 pub use Rattle.lapd_c.specs.Exchange.{answer_after, card_after, tells_nothing, step_event, with_step}
 unfoldable pub use Rattle.lapd_c.specs.Exchange.{AllQuiet, given_after, steps_made}

@@ -16,13 +16,12 @@ pub mod Counters
 pub mod CountersPlaced
 pub mod Slots
 pub mod Clocks
-pub mod ClockLends
 pub mod LinkMarks
 pub mod RefusedLines
 pub mod Reopened
 pub mod WorkedReopened
 pub mod Cards
-pub mod CardLends
+pub mod SlotLends
 pub mod Kept
 pub mod Laws
 pub mod Links

@@ -13,17 +13,16 @@ ghost use Rattle.model_timed.specs.Clock.{stopped};
 ghost use Rattle.lapd_card.specs.Kinds.{card_in};
 ghost use Rattle.lapd_timed.specs.Stands.{AreOfLines, ChangesStandIn, TimersStandIn};
 
-use crate::card_slot::CardSlot;
 use crate::kept::KeptCard;
 use crate::lend::or_answer;
 use crate::plain::{NO_CARD, NO_MEMORY, OK, PlainConfig, PlainLengths, SECOND_START};
+use crate::slot::CardSlot;
 use lapd_card::{AnyCard, Card, CardKind, FrameCard};
 use lapd_clock::Lengths;
 use lapd_store::RawShelf;
 use lapd_timed::{CardTimers, TimedCard};
 use model_line::Config;
 use std::alloc::Global;
-use std::mem::replace;
 
 /// A card, or none, as C holds it.
 #[repr(C)]
@@ -33,7 +32,7 @@ pub struct CardHandle {
 }
 
 impl CardHandle {
-    ghost use Rattle.lapd_c.specs.CardLends.{LendsCardIf};
+    ghost use Rattle.lapd_c.specs.SlotLends.{LendsCardIf};
 
     /// Whether a card is there.
     pub(crate) fn is_started(&self) -> bool
@@ -54,8 +53,7 @@ impl CardHandle {
             return None;
         }
         self.started = false;
-        let slot = replace(&mut self.slot, CardSlot::none());
-        Some(slot.into_box(alloc))
+        Some(self.slot.as_slot().take(alloc))
     }
 
     /// The card, where it lies.
@@ -65,7 +63,7 @@ impl CardHandle {
         ensures card { card_of self.old ≡ option_copied_mut result }
     {
         if self.started {
-            Some(self.slot.card_mut())
+            Some(self.slot.as_slot().get_mut())
         } else {
             None
         }
@@ -78,8 +76,7 @@ impl CardHandle {
         ensures handle { IsHandle self.new }
     {
         self.started = true;
-        let empty = replace(&mut self.slot, CardSlot::of(kept));
-        empty.gone();
+        self.slot.as_slot().put(kept);
     }
 }
 

@@ -7,16 +7,15 @@ ghost use Rattle.lapd_c.specs.{first_fault, due_at, after_due, next_moment, idle
 ghost use Rattle.lapd_c.specs.Statuses as status;
 ghost use Rattle.lapd_c.specs.Clocks.{clock_of, IsClockCall, IsClockStart, IsHandle, plain_due, order_status, after_order, apply_status, after_apply, lengths_given, lengths_status, after_lengths, timer_status};
 
-use crate::clock_slot::ClockSlot;
 use crate::lend::{or_answer, within};
 use crate::plain::{
     NO_CLOCK, NO_MEMORY, NO_PLACE, NO_TIMER, OK, PlainConfig, PlainDue, PlainLengths, PlainOrder,
     SECOND_START, WRONG_TIME,
 };
+use crate::slot::ClockSlot;
 use lapd_clock::Clock;
 use model_line::Config;
 use std::alloc::Global;
-use std::mem::replace;
 
 /// The latest moment that a timer may be ordered at, in milliseconds.
 pub(crate) const LATEST: u64 = 1 << 63;
@@ -29,7 +28,7 @@ pub struct ClockHandle {
 }
 
 impl ClockHandle {
-    ghost use Rattle.lapd_c.specs.ClockLends.{LendsClockIf};
+    ghost use Rattle.lapd_c.specs.SlotLends.{LendsClockIf};
 
     /// Whether a clock is there.
     pub(crate) fn is_started(&self) -> bool
@@ -51,8 +50,7 @@ impl ClockHandle {
             return None;
         }
         self.started = false;
-        let slot = replace(&mut self.slot, ClockSlot::none());
-        Some(slot.into_box(alloc))
+        Some(self.slot.as_slot().take(alloc))
     }
 
     /// The clock, where it lies.
@@ -62,7 +60,7 @@ impl ClockHandle {
         ensures clock { clock_of self.old ≡ option_copied_mut result }
     {
         if self.started {
-            Some(self.slot.clock_mut())
+            Some(self.slot.as_slot().get_mut())
         } else {
             None
         }
@@ -76,8 +74,7 @@ impl ClockHandle {
         ensures handle { IsHandle self.new }
     {
         self.started = true;
-        let empty = replace(&mut self.slot, ClockSlot::of(clock));
-        empty.gone();
+        self.slot.as_slot().put(clock);
     }
 }
 

@@ -9,20 +9,19 @@
 //!
 //! - `lend`: how a call begins, with what its handle holds, or with the status that says what is wrong.
 //! - `card`: a card in C, how it begins and ends. `kept`: a card with its links that wait for room, which `refused` and, of a
-//!   line, `link_marks` mark. `card_slot`: where it lies.
+//!   line, `link_marks` mark.
 //! - `events`: what happens at a card of either kind. `octets`: one octet that comes and one that goes, with the frames
 //!   that these begin and end. `exchange`: octets taken and given in turn. `frames`: frames that come and go, and on which
 //!   lines one waits.
 //! - `questions`: what a card answers about itself, what was counted of a line and of a link, and how many contents more a link
 //!   takes. `links`: which links it has.
 //! - `saved`: a card that is saved, and one that is restored; `kept_image` and `waiting`, how what is kept comes into an image.
-//! - `clock`: a clock in C, and its exports; `clock_reports`, the orders of a report; `clock_saved`, its images; `clock_slot`,
-//!   where it lies.
+//! - `clock`: a clock in C, and its exports; `clock_reports`, the orders of a report; `clock_saved`, its images.
 //! - `laws`: what holds of the machine's answers, so that a report has room for each.
 //! - `plain`: the structs and numbers of C, and what they mean.
 //! - `timed`: what falls due at a card that keeps its own timers, and when.
 //! - `text`: what octets say in words.
-//! - `loose`: a box as the address of its block; `version`: which version this is.
+//! - `slot`: where a card or a clock lies; `version`: which version this is.
 //!
 //! # Only tested
 //!
@@ -38,11 +37,9 @@
 #![tactic(auto)]
 
 mod card;
-mod card_slot;
 mod clock;
 mod clock_reports;
 mod clock_saved;
-mod clock_slot;
 mod events;
 mod exchange;
 mod frames;
@@ -52,12 +49,12 @@ mod laws;
 mod lend;
 mod link_marks;
 mod links;
-mod loose;
 mod octets;
 mod plain;
 mod questions;
 mod refused;
 mod saved;
+mod slot;
 mod text;
 mod timed;
 mod version;

@@ -10,8 +10,8 @@
  * there on all is tested: LLVM's compiler makes this text of it, as it makes the archive of the proved library, and with the
  * same instructions. Functions have the names that they have in Rattle. These are the modules, by SHA-256:
  *
- *     x86-64   683215a9c3b9e4d3baac06a8ce0082752a999b4cc05a6771a0b296748ba4da57
- *     aarch64  7205e4deb653a8fccbb3cc961b5182f218dbaa4afbc228194112c356cda0ccfc
+ *     x86-64   80d9e47acb5134cd9e1215e660158b4d1eeaf3be2c2d0a7d289bc503b34531aa
+ *     aarch64  ed43ba6b810c5cfc2fea72cfcb60285729a0dd7f50e226382d6400686da45f70
  */
 
 #ifndef __ELF__

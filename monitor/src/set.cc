@@ -1,0 +1,70 @@
+// set.cc: see set.h.
+#include "set.h"
+
+#include <algorithm>
+
+namespace monitor {
+
+namespace {
+constexpr size_t FEWEST_SLOTS = 64;
+}
+
+size_t Set::slot_of(uint64_t key) const {
+    uint64_t mixed = key * 0x9E3779B97F4A7C15u;
+    size_t mask = slots.size() - 1, slot = static_cast<size_t>(mixed >> 32) & mask;
+    while (slots[slot] != 0 && keys[slots[slot] - 1] != key)
+        slot = (slot + 1) & mask;
+    return slot;
+}
+
+void Set::grow() {
+    slots.assign(std::max(FEWEST_SLOTS, 2 * slots.size()), 0);
+    for (size_t place = 0; place < keys.size(); place++)
+        slots[slot_of(keys[place])] = static_cast<uint32_t>(place + 1);
+}
+
+Set::Added Set::add(const Possible &it, size_t *place) {
+    if (2 * (all.size() + 1) > slots.size())
+        grow();
+    uint64_t key = it.s.key();
+    size_t slot = slot_of(key);
+    if (slots[slot] != 0) {
+        size_t there = slots[slot] - 1;
+        if (place != nullptr)
+            *place = there;
+        return all[there].e.widen(it.e) ? Added::wider : Added::none;
+    }
+    all.push_back(it);
+    keys.push_back(key);
+    slots[slot] = static_cast<uint32_t>(all.size());
+    if (place != nullptr)
+        *place = all.size() - 1;
+    return Added::anew;
+}
+
+void Set::clear() {
+    if (slots.size() > 16 * FEWEST_SLOTS && 16 * all.size() < slots.size())
+        slots.resize(FEWEST_SLOTS);
+    std::fill(slots.begin(), slots.end(), 0);
+    all.clear();
+    keys.clear();
+}
+
+void Set::swap(Set &other) {
+    all.swap(other.all);
+    keys.swap(other.keys);
+    slots.swap(other.slots);
+}
+
+const Possible &Set::likeliest() const {
+    return *std::min_element(all.begin(), all.end(), [](const Possible &a, const Possible &b) { return a.e.losses < b.e.losses; });
+}
+
+void Set::forget_losses() {
+    for (Possible &it : all) {
+        it.e.losses = 0;
+        it.e.lost = {};
+    }
+}
+
+} // namespace monitor

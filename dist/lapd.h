@@ -129,10 +129,24 @@ extern "C" {
 
 /*
  * The version of this header, 1.0: the major number times 1,000, and the minor one. `lapdsim --version` and lapd.pc say
- * the same. While the major number stays, what compiled goes on compiling, and a program that was linked with the
- * shared library runs with a later one: no function goes, and no type, number or meaning changes. A new minor number
- * brings functions and statuses at most. A new major number may change anything; its shared library has another name.
- * No version was released yet: what comes before that is all 1.0.
+ * the same. While the major number stays, what compiled goes on compiling, and a program that was compiled with an
+ * earlier header runs with a later shared library:
+ *
+ *  - No function goes, and none has other parameters. No number changes, except that LAPD_COUNTERS grows, and no meaning.
+ *  - Each struct keeps its size, and each field its place and type. A new field takes the first of the struct's reserved
+ *    places, and a new counter the first of those of its counters.
+ *  - What is new stays off until somebody asks for it: by a new function, or by a new field that is not 0. So an earlier
+ *    program meets no new note, cause or timer. A status that tells an old fault more exactly is the only exception.
+ *
+ * What a caller hands in (lapd_config, lapd_lengths) has reserved places that must be 0; otherwise the call answers
+ * LAPD_BAD_RESERVED. So begin with an initialiser of this header, with names of fields, or
+ * with zeros: a list of values without names is warned of by a later header. What the library writes (lapd_report with its notes,
+ * lapd_link, lapd_due, lapd_head, and the structs of rooms and counters) has reserved places, too. Each call that writes
+ * the struct sets them, to 0 in this version. Do not read them: a later library may write a number there. lapd_card, lapd_clock,
+ * lapd_timer and lapd_order have none, and stay as they are.
+ *
+ * All else needs a new major number, and its shared library has another name (soname). No version was released yet: what
+ * comes before that is all 1.0.
  */
 #define LAPD_VERSION 1000
 
@@ -187,7 +201,8 @@ enum {
     LAPD_WRONG_CAUSE = 27, /* none of LAPD_ABORT, LAPD_RAGGED, LAPD_SHORT and LAPD_FCS */
     LAPD_NO_FRAME = 28,    /* no frame of the line waits to be sent */
 
-    /* A field of the configuration is out of range: the first, in their order; after sapi come the side and the reading. */
+    /* A field of the configuration is out of range: the first, in their order; after sapi come the side, the reading, and
+     * the reserved places. */
     LAPD_BAD_LINES = 33,
     LAPD_BAD_TERMINALS = 34,
     LAPD_BAD_K = 35,
@@ -201,6 +216,8 @@ enum {
     LAPD_BAD_SIDE = 43, /* of lapd_frame_text, too */
     LAPD_BAD_SAPI = 44,
     LAPD_BAD_READING = 45,
+    LAPD_BAD_RESERVED = 47, /* a reserved place of a configuration, or of lengths, is not 0: the struct was not zeroed, or the
+                               program wants what a later version has */
 
     /* Of a restore. No card and no clock is there then. */
     LAPD_BAD_IMAGE = 46 /* no image, or one of another kind or version; damaged so that its form shows it; or of a state
@@ -227,6 +244,7 @@ typedef struct lapd_config {
                             lines of a card may share a bus. Of the other sides it is not read */
     uint16_t sapi;       /* the SAPI of the second service, LAPD_PACKET: 1 to 62; 0 means 16 (clause 3.3.3) */
     uint16_t reading;    /* which rows hold where readers of the standard differ: LAPD_PROFILE or LAPD_ANNEX_B */
+    uint16_t reserved[18]; /* for fields of a later version: 0 */
 } lapd_config;
 
 enum {
@@ -236,24 +254,24 @@ enum {
 };
 
 enum {
-    LAPD_PROFILE = 0, /* this project's choice of each row */
-    LAPD_ANNEX_B = 1  /* the rows as others have them, after the diagrams of annex B: for a conformance laboratory, or equipment
-                         of another maker */
+    LAPD_PROFILE = 0, /* this project's choice of each row, for two ends that are both this library's */
+    LAPD_ANNEX_B = 1  /* the rows as others have them, after the diagrams of annex B: for equipment of other makers, and for a
+                         conformance laboratory */
 };
 
 /*
  * Initialisers of a configuration of one line, with the standard's windows, N201 and N200 (clauses 5.9.2, 5.9.3 and 5.9.5), and
  * with a slot for each place of each queue, so that no request is refused as LAPD_REFUSED_POOL_FULL. They are the network's, and
- * fit the other sides, too. Basic access has 16 kbit/s, a bus with up to eight TEIs, and windows of 1 and 3; primary rate has 64
- * kbit/s, one TEI, and windows of 7.
+ * fit the other sides, too. Their reading is LAPD_ANNEX_B, as the other end mostly is another maker's. Basic access has 16
+ * kbit/s, a bus with up to eight TEIs, and windows of 1 and 3; primary rate has 64 kbit/s, one TEI, and windows of 7.
  *
  *     lapd_config gateway = LAPD_BASIC_ACCESS;     lapd_config phone = LAPD_BASIC_ACCESS;
  *     gateway.lines = 4;                           phone.terminals = 1;          a TEI alone takes less memory
  *     gateway.slots *= gateway.lines;              phone.side = LAPD_TERMINAL;
  *                                                  phone.seed = ... a random number ...
  */
-#define LAPD_BASIC_ACCESS { 1, 8, 1, 3, 8, 4, 4, 132, 260, 3, LAPD_NETWORK, 0, 0, LAPD_PROFILE }
-#define LAPD_PRIMARY_RATE { 1, 1, 7, 7, 8, 4, 4, 20, 260, 3, LAPD_NETWORK, 0, 0, LAPD_PROFILE }
+#define LAPD_BASIC_ACCESS { 1, 8, 1, 3, 8, 4, 4, 132, 260, 3, LAPD_NETWORK, 0, 0, LAPD_ANNEX_B, { 0 } }
+#define LAPD_PRIMARY_RATE { 1, 1, 7, 7, 8, 4, 4, 20, 260, 3, LAPD_NETWORK, 0, 0, LAPD_ANNEX_B, { 0 } }
 
 /* ---- What is told ----------------------------------------------------------------------------------------------- */
 
@@ -300,6 +318,7 @@ typedef struct lapd_note {
     uint8_t service; /* LAPD_CALL or LAPD_PACKET; LAPD_CALL for notes of TEI management, which are of both */
     uint8_t tei;     /* the TEI that it is about; LAPD_GROUP_TEI for denied, unassigned and remove-all */
     uint8_t error;   /* of LAPD_ERROR_INDICATION: the letter, 'A' to 'O' without 'M'; otherwise 0 */
+    uint8_t reserved[4]; /* for a later version: 0 */
 } lapd_note;
 
 enum {
@@ -341,8 +360,8 @@ enum {
 
 /*
  * What an event led to: notes, then why something was dropped, then orders. Each call that succeeds tells all of one
- * event: the numbers of notes and orders, cause, lost, begun, delivered, length, more, given_up and given_up_16 are always
- * those of this event. Beyond these numbers, and beyond length, the arrays may hold what earlier events told. A refused call
+ * event: the numbers of notes and orders, cause, lost, begun, delivered, length, more, given_up, given_up_16 and given_up_tei are
+ * always those of this event. Beyond these numbers, and beyond length, the arrays may hold what earlier events told. A refused call
  * writes no report: what an earlier call told, given_up too, still stands there.
  *
  * A link on which contents were refused as LAPD_REFUSED_QUEUE_FULL waits for room, and is told once when its queue has
@@ -353,8 +372,8 @@ enum {
  *
  * Contents that lapd_data granted wait until the other end acknowledges them, or are given up. A link gives them up as it is
  * released or deactivated, as its establishment fails, and as its TEI leaves the line. It also does as it is established anew
- * while some are outstanding: sent, not acknowledged, and not to be sent again. An event is of one TEI: that of a request,
- * otherwise that of the first note. `given_up` and `given_up_16` say how many contents its two links give up. These are the
+ * while some are outstanding: sent, not acknowledged, and not to be sent again. All that an event gives up is of one TEI,
+ * `given_up_tei`. `given_up` and `given_up_16` say how many contents its two links give up. These are the
  * ones that were granted last before the event, sent or not; what was sent may have arrived all the same. So read a report
  * before the card's next call. A release has no note as it is granted: its own report tells what it gives up. Unit data is not counted: it is given up only as the line goes down. No
  * report counts what is lost by lapd_card_free, a restart or a standby that takes over.
@@ -395,6 +414,8 @@ typedef struct lapd_report {
     uint16_t line;            /* the line at which the event happened */
     uint8_t given_up;    /* the latest so many contents that lapd_data granted for call control are given up: 0 to 127 */
     uint8_t given_up_16; /* the same of the second service */
+    uint8_t given_up_tei; /* the TEI of these links, 0 to 126; 255 if both numbers are 0 */
+    uint8_t reserved[15]; /* for a later version: 0 */
 } lapd_report;
 
 /* ---- A card ----------------------------------------------------------------------------------------------------- */
@@ -408,8 +429,8 @@ typedef struct lapd_card {
 #define LAPD_CARD_NONE { false, LAPD_NULL }
 
 /* Starts a card of octets, on which no TEI is on any line. Takes memory, as only the starts of a card do.
- * LAPD_SECOND_START, the first bad field (LAPD_BAD_LINES to LAPD_BAD_READING) or LAPD_NO_MEMORY: there is no other card than
- * before. */
+ * LAPD_SECOND_START, the first bad field (LAPD_BAD_LINES to LAPD_BAD_READING, or LAPD_BAD_RESERVED) or LAPD_NO_MEMORY: there is
+ * no other card than before. */
 LAPD_STATUS lapd_card_start(lapd_card *card, const lapd_config *config);
 
 /* Starts a card of frames in the same way. It takes less memory, as no line of it has room for a frame on its way. */
@@ -423,16 +444,19 @@ typedef struct lapd_lengths {
     uint32_t t203;
     uint32_t t201;
     uint32_t t202;
+    uint32_t reserved[4]; /* for a later version: 0 */
 } lapd_lengths;
 
-/* An initialiser of lengths, with these defaults. */
-#define LAPD_DEFAULT_LENGTHS { 1000, 10000, 1000, 2000 }
+/* An initialiser of lengths, with these defaults. On LAPD_BASIC_ACCESS T200 of 1,000 ms is enough for three links that send full
+ * frames both ways at a time; for eight it is 2,568 (EMBEDDING.md, "Choosing T200"). With less, contents may be told twice, or
+ * be acknowledged and lost. */
+#define LAPD_DEFAULT_LENGTHS { 1000, 10000, 1000, 2000, { 0 } }
 
 /*
  * Starts a card of octets that keeps its own timers: no clock is needed, and no order is to be carried out. It is at moment 0,
  * and its calls happen at the moment that lapd_fall_due was told last. So tell it the time first: a timer that another call
  * starts before runs from moment 0. Its reports have no orders, and lapd_expire answers LAPD_WRONG_CARD, as its expiries are its
- * own; all other calls are the same. LAPD_WRONG_TIME: a length is out of range.
+ * own; all other calls are the same. LAPD_WRONG_TIME: a length is out of range. LAPD_BAD_RESERVED: a reserved place is not 0.
  */
 LAPD_STATUS lapd_card_start_timed(lapd_card *card, const lapd_config *config, const lapd_lengths *lengths);
 
@@ -567,7 +591,7 @@ LAPD_STATUS lapd_next_moment(lapd_card *card, uint64_t *moment);
 LAPD_STATUS lapd_changed_at(lapd_card *card, uint32_t line, uint8_t service, uint8_t tei, uint64_t *moment);
 
 /* How long timers run that are started from now on. Those that run keep the lengths that they were started with.
- * LAPD_WRONG_TIME: a length is out of range, and nothing has changed. */
+ * LAPD_WRONG_TIME: a length is out of range. LAPD_BAD_RESERVED: a reserved place is not 0. Nothing has changed then. */
 LAPD_STATUS lapd_card_set_lengths(lapd_card *card, const lapd_lengths *lengths);
 
 /* ---- What a card says of itself --------------------------------------------------------------------------------- */
@@ -582,6 +606,7 @@ typedef struct lapd_link {
     uint8_t service; /* LAPD_CALL or LAPD_PACKET */
     uint8_t tei;     /* 0 to 126 */
     uint8_t state;   /* as lapd_state tells it: 4 to 8 */
+    uint8_t reserved[5]; /* for a later version: 0 */
 } lapd_link;
 
 /*
@@ -600,6 +625,7 @@ struct lapd_room {
     uint32_t pool; /* so many more find a slot of the card: 0 to its slots */
     uint8_t queue; /* so many more find a place in the link's queue: 0 to the card's `queue` */
     uint8_t va;    /* V(A), 0 to 127: the number of the oldest contents that are not acknowledged (clause 3.5.2.3) */
+    uint8_t reserved[10]; /* for a later version: 0 */
 };
 
 /*
@@ -617,6 +643,7 @@ LAPD_STATUS lapd_room(lapd_card *card, uint32_t line, uint8_t service, uint8_t t
 typedef struct lapd_head {
     uint16_t length;   /* octets from its address to its information, without its check: 3 or more, or 0 for no frame */
     uint8_t octets[4]; /* its address and its control field; if that has one octet, the first of the information, or 0 */
+    uint8_t reserved[2]; /* for a later version: 0 */
 } lapd_head;
 
 /* Which frame a pull of the line began last, as after one whose report says `begun`: it stays until a pull begins
@@ -685,10 +712,11 @@ enum {
     LAPD_COUNTERS = 79
 };
 
-/* As the call has the same name, it is `struct lapd_counters` also in C++. While the major version stays, it has these
- * places and no others; a number that is counted later comes with a call of its own. */
+/* As the call has the same name, it is `struct lapd_counters` also in C++. While the major version stays, these numbers keep
+ * their places. What a later version counts takes the first reserved place. */
 struct lapd_counters {
     uint64_t values[LAPD_COUNTERS]; /* each stays at its greatest value once it is there */
+    uint64_t reserved[17];          /* for what a later version counts: 0 */
 };
 
 /* What was counted of a line since the card began, on a card of either kind. A request that is refused is not counted. It
@@ -697,13 +725,14 @@ LAPD_STATUS lapd_counters(lapd_card *card, uint32_t line, struct lapd_counters *
 
 /* What is counted of a link. Each number stays at 65535 once it is there. All begin anew as the TEI comes to the line, and as
  * lapd_deactivate or lapd_line_down gives the link up. As the call has the same name, it is `struct lapd_link_counters` also in
- * C++. While the major version stays, it has these numbers and no others. */
+ * C++. What a later version counts takes the first reserved place. */
 struct lapd_link_counters {
     uint16_t sent_again;       /* I-frames begun whose number began before, in the same establishment (5.6.4, 5.6.7) */
     uint16_t t200_expired;     /* how often T200 expired while it ran (clause 5.9.1) */
     uint16_t rejects_sent;     /* REJ frames begun (clause 5.8.1) */
     uint16_t rejects_received; /* REJ frames heard in states 7 and 8, well formed, whatever their N(R) (clause 5.6.4) */
     uint16_t established;      /* how often it was established, by either side, also anew (clauses 5.5.1 and 5.7) */
+    uint16_t reserved[11];     /* for what a later version counts: 0 */
 };
 
 /* What was counted of the link of a service with this TEI, on a card of either kind. It changes nothing.
@@ -745,7 +774,7 @@ LAPD_STATUS lapd_lines(lapd_card *card, uint32_t *lines);
  */
 
 /* So many octets the image of a card of this configuration has at most, of each kind, and so also that of a clock. 0: a field is
- * out of range. */
+ * out of range, or a reserved place is not 0. */
 uint32_t lapd_image_octets(const lapd_config *config);
 
 /* Writes the image of a card in front of `image`, and *length is how many octets it has. Octets after these do not change, nor does
@@ -796,6 +825,7 @@ typedef struct lapd_clock {
 typedef struct lapd_due {
     uint32_t line;
     lapd_timer timer;
+    uint8_t reserved[9]; /* for a later version: 0 */
 } lapd_due;
 
 /* Starts a clock on which no timer runs, for a card of this configuration. Takes memory, as the only call on a clock.
@@ -1139,6 +1169,7 @@ LAPD_INLINE const char *lapd_status_text(uint32_t status) {
     case LAPD_BAD_SIDE: return "side is out of range";
     case LAPD_BAD_SAPI: return "sapi is out of range";
     case LAPD_BAD_READING: return "reading is out of range";
+    case LAPD_BAD_RESERVED: return "a reserved place is not 0";
     case LAPD_BAD_IMAGE: return "bad image";
     default: return "unknown status";
     }

@@ -140,6 +140,7 @@ enum class [[nodiscard]] status : uint32_t {
     bad_side = LAPD_BAD_SIDE,
     bad_sapi = LAPD_BAD_SAPI,
     bad_reading = LAPD_BAD_READING,
+    bad_reserved = LAPD_BAD_RESERVED,
     bad_image = LAPD_BAD_IMAGE,
     // tools/names: end
 };
@@ -254,7 +255,7 @@ struct note {
         return static_cast<status>(lapd_note_text_of(&it, &config, at(to), to.size()));
     }
     constexpr lapd_note raw() const {
-        return {static_cast<uint8_t>(kind), static_cast<uint8_t>(service), tei, static_cast<uint8_t>(error)};
+        return {static_cast<uint8_t>(kind), static_cast<uint8_t>(service), tei, static_cast<uint8_t>(error), {}};
     }
 
     note_kind kind;
@@ -291,6 +292,8 @@ public:
     /// How many contents that were granted are given up, the latest: of call control, and of the second service.
     unsigned given_up() const { return raw_.given_up; }
     unsigned given_up_16() const { return raw_.given_up_16; }
+    /// The TEI of these links; 255 if both numbers are 0.
+    uint8_t given_up_tei() const { return raw_.given_up_tei; }
     bool begun() const { return raw_.begun != 0; }
     bool delivered() const { return raw_.delivered != 0; }
     octets contents() const { return {raw_.contents, raw_.length}; }

@@ -48,7 +48,7 @@ set(CPACK_COMPONENT_SIMULATOR_DESCRIPTION
 set(lapd_debian "${CMAKE_CURRENT_BINARY_DIR}/debian")
 file(WRITE "${lapd_debian}/shlibs" "liblapd ${PROJECT_VERSION_MAJOR} ${lapd_runtime} (>= ${CPACK_PACKAGE_VERSION})\n")
 file(WRITE "${lapd_debian}/triggers" "activate-noawait ldconfig\n")
-set(CPACK_DEBIAN_RUNTIME_PACKAGE_CONTROL_EXTRA "${lapd_debian}/shlibs;${lapd_debian}/triggers")
+set(CPACK_DEBIAN_RUNTIME_PACKAGE_CONTROL_EXTRA "${lapd_debian}/shlibs;${lapd_debian}/triggers;${lapd_debian}/symbols")
 
 string(TIMESTAMP lapd_now "%a, %d %b %Y %H:%M:%S +0000" UTC)
 file(WRITE "${lapd_debian}/changelog" "\
@@ -58,15 +58,59 @@ lapd (${CPACK_PACKAGE_VERSION}) unstable; urgency=medium
 
  -- ${LAPD_MAINTAINER}  ${lapd_now}
 ")
+file(WRITE "${lapd_debian}/README.Debian" "\
+liblapd.a         the library, with its functions of memory
+liblapd_card.a    without them: for a program that has its own (lapd_memory.h)
+liblapd-static.a  liblapd.a, by a name by which a linker takes no shared library: pkg-config's lapd
+")
+# Debian's flags put tests into calls that write to memory whose size a compiler knows: the simulator has none.
+file(WRITE "${lapd_debian}/lintian/lapdsim" "lapdsim: hardening-no-fortify-functions [usr/bin/lapdsim]\n")
+if(LAPD_SIMULATOR)
+    install(FILES "${lapd_debian}/lintian/lapdsim" DESTINATION "${CMAKE_INSTALL_DATADIR}/lintian/overrides" COMPONENT simulator EXCLUDE_FROM_ALL)
+endif()
+install(FILES "${lapd_debian}/README.Debian" DESTINATION "${CMAKE_INSTALL_DATADIR}/doc/liblapd-dev" COMPONENT development EXCLUDE_FROM_ALL)
 foreach(it ${CPACK_COMPONENTS_ALL})
     string(TOUPPER ${it} upper)
     install(FILES copyright "${lapd_debian}/changelog" DESTINATION
         "${CMAKE_INSTALL_DATADIR}/doc/${CPACK_DEBIAN_${upper}_PACKAGE_NAME}" COMPONENT ${it} EXCLUDE_FROM_ALL)
 endforeach()
 
-# Debian has manuals and changes compressed.
-file(WRITE "${lapd_debian}/compress.cmake" [[
+# Debian has libraries below the folder of their processor, which CMake knows of this prefix alone.
+file(WRITE "${lapd_debian}/prefix.cmake" "\
+if(CPACK_GENERATOR STREQUAL \"DEB\" AND NOT \"${CMAKE_INSTALL_PREFIX}\" STREQUAL \"/usr\")
+    message(FATAL_ERROR \"Debian's packages install below /usr: configure with -DCMAKE_INSTALL_PREFIX=/usr\")
+endif()
+")
+set(CPACK_PROJECT_CONFIG_FILE "${lapd_debian}/prefix.cmake")
+
+# Debian has manuals and changes compressed, no section in a library that says nothing to who uses it, and a list of the symbols of
+# a shared one.
+file(WRITE "${lapd_debian}/compress.cmake" "\
+set(nm \"${CMAKE_NM}\")
+set(strip \"${CMAKE_STRIP}\")
+set(symbols \"${lapd_debian}/symbols\")
+set(package \"liblapd.so.${PROJECT_VERSION_MAJOR} ${lapd_runtime} #MINVER#\\n* Build-Depends-Package: liblapd-dev\")
+set(version \"${CPACK_PACKAGE_VERSION}\")
+")
+file(APPEND "${lapd_debian}/compress.cmake" [[
 if(CPACK_GENERATOR STREQUAL "DEB")
+    set(unneeded --remove-section=.comment --remove-section=.note)
+    file(GLOB_RECURSE programs "${CPACK_TEMPORARY_DIRECTORY}/lapdsim" "${CPACK_TEMPORARY_DIRECTORY}/liblapd.so.*.*")
+    file(GLOB_RECURSE archives "${CPACK_TEMPORARY_DIRECTORY}/liblapd*.a")
+    foreach(it ${programs})
+        execute_process(COMMAND "${strip}" ${unneeded} "${it}")
+    endforeach()
+    foreach(it ${archives})
+        if(NOT IS_SYMLINK "${it}")
+            execute_process(COMMAND "${strip}" --strip-debug --enable-deterministic-archives ${unneeded} "${it}")
+        endif()
+    endforeach()
+    list(FILTER programs INCLUDE REGEX "/liblapd[^/]*$")
+    foreach(it ${programs})
+        execute_process(COMMAND "${nm}" -D --defined-only --format=posix "${it}" OUTPUT_VARIABLE names)
+        string(REGEX REPLACE "(^|\n)([a-z_0-9]+)[^\n]*" "\\1 \\2@Base ${version}" names "${names}")
+        file(WRITE "${symbols}" "${package}\n${names}")
+    endforeach()
     file(GLOB_RECURSE pages "${CPACK_TEMPORARY_DIRECTORY}/lapd*.[135]" "${CPACK_TEMPORARY_DIRECTORY}/changelog")
     list(FILTER pages INCLUDE REGEX "/(man/man[135]|doc)/")
     foreach(it ${pages})

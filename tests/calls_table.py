@@ -39,7 +39,7 @@ RECORDS = {
     'lapd_next_frame': 'Called (next_frame_asked line (length out.old))',
     'lapd_expire': 'Called (expire_asked line timer.now)',
     'lapd_request': 'Called (request_asked line request service tei contents.now)',
-    'lapd_exchange': 'IsCallOf of_octets line',
+    'lapd_exchange': 'IsCallOf of_octets line None',
     'lapd_fall_due': 'IsMomentCall',
     'lapd_next_moment': 'IsQuestion of_any',
     'lapd_changed_at': 'IsQuestion of_any',

@@ -102,7 +102,7 @@ def shown(definition):
 
 
 def words_of(specs, name, met):
-    """A definition and those of its file that it names, each behind the first that names it."""
+    """A definition and those of its file that it names, each after the first that names it."""
     if name in specs.definitions and name not in met:
         met[name] = shown(specs.definitions[name])
         for word in WORD.findall(' '.join(met[name])):

@@ -83,7 +83,7 @@ export class Card {
   }
 
   field(name, words, input) {
-    const label = element("label", "", name);
+    const label = element("label", input.tagName === "SELECT" ? "is-wide" : "", name);
     label.title = words;
     input.title = words;
     label.append(input);

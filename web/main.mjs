@@ -17,7 +17,7 @@ const data = JSON.parse(byId("data").textContent);
 /** Octets of base64. */
 const octetsOfText = (text) => Uint8Array.from(atob(text), (it) => it.charCodeAt(0));
 
-/** What a kind of fault means, as Help has it, behind a colon. */
+/** What a kind of fault means, as Help has it, after a colon. */
 function explanationOf(kind) {
   const found = [...byId("faults").rows].find((it) => it.cells[0].textContent === kind);
   return found ? `: ${found.cells[1].textContent}` : "";

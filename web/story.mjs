@@ -144,7 +144,7 @@ function ofComment(step) {
   return rowOf(step.line.number, step.at, COMMENT, words.replace(AROUND, "").replace(NO_SIGN, "\ufffd"));
 }
 
-/** The rows, where the cause of a drop stands behind what was dropped. */
+/** The rows, where the cause of a drop stands after what was dropped. */
 function joined(rows) {
   const out = [];
   for (const row of rows) {

@@ -32,9 +32,11 @@ and LAYER3.md says what may come twice:
             self.card, self.link = card, link
             self.granted, self.waiting = collections.deque(maxlen=127), collections.deque()
 
-        def gave_up(self, count):                               # of each report: given_up, or given_up_16
-            for _ in range(count):
-                self.waiting.appendleft(self.granted.pop())
+        def gave_up(self, report):                              # each report
+            line, service, tei = self.link
+            if (report.line, report.given_up_tei) == (line, tei):
+                for _ in range(report.given_up if service is lapd.Service.CALL else report.given_up_16):
+                    self.waiting.appendleft(self.granted.pop())
 
         def send_waiting(self):                                 # after each report, and as a message is put in `waiting`
             try:
@@ -106,6 +108,7 @@ class Status(enum.IntEnum):
     BAD_SIDE = 43
     BAD_SAPI = 44
     BAD_READING = 45
+    BAD_RESERVED = 47
     BAD_IMAGE = 46
     # tools/names: end
 
@@ -236,6 +239,9 @@ MOST_TEXT = 592
 COUNTERS = 79
 # tools/names: end
 
+# What stands for a TEI in a report that gives nothing up.
+_NO_TEI = 255
+
 # ---- Structs of lapd.h ---------------------------------------------------------------------------------------------------
 
 
@@ -245,13 +251,14 @@ class _Config(ctypes.Structure):
                 ("k16", ctypes.c_uint16), ("queue", ctypes.c_uint16), ("unit_queue", ctypes.c_uint16),
                 ("control", ctypes.c_uint16), ("slots", ctypes.c_uint16), ("n201", ctypes.c_uint16),
                 ("n200", ctypes.c_uint16), ("side", ctypes.c_uint16), ("seed", ctypes.c_uint16), ("sapi", ctypes.c_uint16),
-                ("reading", ctypes.c_uint16)]
+                ("reading", ctypes.c_uint16), ("reserved", ctypes.c_uint16 * 18)]
     # tools/names: end
 
 
 class _Note(ctypes.Structure):
     # tools/names: lapd_note
-    _fields_ = [("note", ctypes.c_uint8), ("service", ctypes.c_uint8), ("tei", ctypes.c_uint8), ("error", ctypes.c_uint8)]
+    _fields_ = [("note", ctypes.c_uint8), ("service", ctypes.c_uint8), ("tei", ctypes.c_uint8), ("error", ctypes.c_uint8),
+                ("reserved", ctypes.c_uint8 * 4)]
     # tools/names: end
 
 
@@ -274,13 +281,15 @@ class _Report(ctypes.Structure):
                 ("length", ctypes.c_uint16), ("notes", _Note * 4), ("orders", _Order * 4),
                 ("contents", ctypes.c_uint8 * 260), ("more", ctypes.c_uint8), ("expired", _Timer),
                 ("reopened", ctypes.c_uint8), ("reopened_service", ctypes.c_uint8), ("reopened_tei", ctypes.c_uint8),
-                ("line", ctypes.c_uint16), ("given_up", ctypes.c_uint8), ("given_up_16", ctypes.c_uint8)]
+                ("line", ctypes.c_uint16), ("given_up", ctypes.c_uint8), ("given_up_16", ctypes.c_uint8),
+                ("given_up_tei", ctypes.c_uint8), ("reserved", ctypes.c_uint8 * 15)]
     # tools/names: end
 
 
 class _Lengths(ctypes.Structure):
     # tools/names: lapd_lengths
-    _fields_ = [("t200", ctypes.c_uint32), ("t203", ctypes.c_uint32), ("t201", ctypes.c_uint32), ("t202", ctypes.c_uint32)]
+    _fields_ = [("t200", ctypes.c_uint32), ("t203", ctypes.c_uint32), ("t201", ctypes.c_uint32), ("t202", ctypes.c_uint32),
+                ("reserved", ctypes.c_uint32 * 4)]
     # tools/names: end
 
 
@@ -294,38 +303,40 @@ class _Handle(ctypes.Structure):
 
 class _Link(ctypes.Structure):
     # tools/names: lapd_link
-    _fields_ = [("service", ctypes.c_uint8), ("tei", ctypes.c_uint8), ("state", ctypes.c_uint8)]
+    _fields_ = [("service", ctypes.c_uint8), ("tei", ctypes.c_uint8), ("state", ctypes.c_uint8),
+                ("reserved", ctypes.c_uint8 * 5)]
     # tools/names: end
 
 
 class _Room(ctypes.Structure):
     # tools/names: lapd_room
-    _fields_ = [("pool", ctypes.c_uint32), ("queue", ctypes.c_uint8), ("va", ctypes.c_uint8)]
+    _fields_ = [("pool", ctypes.c_uint32), ("queue", ctypes.c_uint8), ("va", ctypes.c_uint8),
+                ("reserved", ctypes.c_uint8 * 10)]
     # tools/names: end
 
 
 class _Head(ctypes.Structure):
     # tools/names: lapd_head
-    _fields_ = [("length", ctypes.c_uint16), ("octets", ctypes.c_uint8 * 4)]
+    _fields_ = [("length", ctypes.c_uint16), ("octets", ctypes.c_uint8 * 4), ("reserved", ctypes.c_uint8 * 2)]
     # tools/names: end
 
 
 class _Counters(ctypes.Structure):
     # tools/names: lapd_counters
-    _fields_ = [("values", ctypes.c_uint64 * 79)]
+    _fields_ = [("values", ctypes.c_uint64 * 79), ("reserved", ctypes.c_uint64 * 17)]
     # tools/names: end
 
 
 class _LinkCounters(ctypes.Structure):
     # tools/names: lapd_link_counters
     _fields_ = [("sent_again", ctypes.c_uint16), ("t200_expired", ctypes.c_uint16), ("rejects_sent", ctypes.c_uint16),
-                ("rejects_received", ctypes.c_uint16), ("established", ctypes.c_uint16)]
+                ("rejects_received", ctypes.c_uint16), ("established", ctypes.c_uint16), ("reserved", ctypes.c_uint16 * 11)]
     # tools/names: end
 
 
 class _Due(ctypes.Structure):
     # tools/names: lapd_due
-    _fields_ = [("line", ctypes.c_uint32), ("timer", _Timer)]
+    _fields_ = [("line", ctypes.c_uint32), ("timer", _Timer), ("reserved", ctypes.c_uint8 * 9)]
     # tools/names: end
 
 
@@ -486,8 +497,10 @@ class Config:
 
 
 # One line, as the network's side; as lapd.h says at LAPD_BASIC_ACCESS. Others are dataclasses.replace(BASIC_ACCESS, lines=4, ..).
-BASIC_ACCESS = Config(lines=1, terminals=8, k=1, k16=3, queue=8, unit_queue=4, control=4, slots=132, n201=260, n200=3)
-PRIMARY_RATE = Config(lines=1, terminals=1, k=7, k16=7, queue=8, unit_queue=4, control=4, slots=20, n201=260, n200=3)
+BASIC_ACCESS = Config(lines=1, terminals=8, k=1, k16=3, queue=8, unit_queue=4, control=4, slots=132, n201=260, n200=3,
+                      reading=Reading.ANNEX_B)
+PRIMARY_RATE = Config(lines=1, terminals=1, k=7, k16=7, queue=8, unit_queue=4, control=4, slots=20, n201=260, n200=3,
+                      reading=Reading.ANNEX_B)
 
 
 class Note(NamedTuple):
@@ -548,9 +561,10 @@ class Report(NamedTuple):
     contents: Optional[bytes] = None  # of a data or a unit indication
     more: bool = False  # of the next frame: whether another waits on its line
     reopened: Optional[Tuple[Service, int]] = None  # a link, with its TEI, that was refused contents and has room again
-    # Of the TEI of the request, otherwise of the first note: 0 to 127 each. A release that is granted tells it in its own report.
-    given_up: int = 0  # the latest so many contents that were granted for call control are given up
+    # A release that is granted tells it in its own report.
+    given_up: int = 0  # the latest so many contents that were granted for call control are given up, 0 to 127
     given_up_16: int = 0  # the same of the second service
+    given_up_tei: Optional[int] = None  # the TEI of these links; None if both numbers are 0
     line: int = 0  # at which the event happened
     expired: Optional[Timer] = None  # of fall_due: the timer that expired
 
@@ -611,7 +625,8 @@ def _report(of: _Report) -> Report:
                   tuple(Order(OrderKind(it.order), _timer(it.timer)) for it in of.orders[: of.order_count]),
                   Cause(of.cause) if of.cause else None, of.lost, bool(of.begun),
                   bytes(of.contents[: of.length]) if of.delivered else None, bool(of.more),
-                  (Service(of.reopened_service), of.reopened_tei) if of.reopened else None, of.given_up, of.given_up_16, of.line,
+                  (Service(of.reopened_service), of.reopened_tei) if of.reopened else None, of.given_up, of.given_up_16,
+                  of.given_up_tei if of.given_up_tei != _NO_TEI else None, of.line,
                   _timer(of.expired) if of.expired.timer else None)
 
 

@@ -1,6 +1,6 @@
 /* ---- Cards and clocks: each has a machine of its own -------------------------------------------------------------- */
 
-/* A machine whose heap has so many octets, and as many behind it as an image takes, on which nothing was started; NULL where
+/* A machine whose heap has so many octets, and as many after it as an image takes, on which nothing was started; NULL where
  * there is no memory. */
 static machine *new_machine(u64 heap, u64 image) {
     u64 octets = HEAP + heap + image;
@@ -36,6 +36,9 @@ static u32 fault_of(const lapd_config *config) {
     for (size_t i = 0; i < sizeof fields / sizeof *fields; i++)
         if (fields[i].value < fields[i].least || fields[i].value > fields[i].most)
             return fields[i].status;
+    for (size_t i = 0; i < sizeof config->reserved / sizeof *config->reserved; i++)
+        if (config->reserved[i] != 0)
+            return LAPD_BAD_RESERVED;
     return LAPD_OK;
 }
 
@@ -55,9 +58,6 @@ uint32_t lapd_image_octets(const lapd_config *config) {
     return fault_of(config) == LAPD_OK ? most_of_card(config) : 0;
 }
 
-/* What a null pointer to no octets is taken for. */
-static const uint8_t no_octet = 0;
-
 typedef u32 starts(machine *instance, u64 handle, u64 config);
 
 /* What a start is, and how it is called in a machine, with lengths of timers or without. */
@@ -68,18 +68,22 @@ typedef struct {
 } start_call;
 
 static u32 called(machine *instance, const start_call *call) {
-    enum { LENGTHS = OTHER + 32 };
+    enum { LENGTHS = OTHER + 64 };
     if (call->lengths == NULL)
         return call->plain(instance, HANDLE, OTHER);
     put_lapd_lengths(instance, LENGTHS, call->lengths);
     return call->timed(instance, HANDLE, OTHER, LENGTHS);
 }
 
-/* Whether a length of a timer is out of range. */
-static bool is_out_of_range(const lapd_lengths *it) {
+/* What is wrong with lengths of timers: one is out of range, or a place is not 0 that is for a later version. */
+static u32 fault_of_lengths(const lapd_lengths *it) {
     enum { HOUR = 3600000 };
-    return it != NULL && (it->t200 - 1 >= HOUR || it->t203 - 1 >= HOUR || it->t201 - 1 >= HOUR ||
-                          it->t202 - 1 >= HOUR);
+    if (it->t200 - 1 >= HOUR || it->t203 - 1 >= HOUR || it->t201 - 1 >= HOUR || it->t202 - 1 >= HOUR)
+        return LAPD_WRONG_TIME;
+    for (size_t i = 0; i < sizeof it->reserved / sizeof *it->reserved; i++)
+        if (it->reserved[i] != 0)
+            return LAPD_BAD_RESERVED;
+    return LAPD_OK;
 }
 
 /* Starts a card or a clock in a machine of its own. */
@@ -87,8 +91,8 @@ static uint32_t start(bool *started, void **at, const lapd_config *config, u64 h
     if (*started)
         return LAPD_SECOND_START;
     u32 fault = fault_of(config);
-    if (fault == LAPD_OK && is_out_of_range(call->lengths))
-        fault = LAPD_WRONG_TIME;
+    if (fault == LAPD_OK && call->lengths != NULL)
+        fault = fault_of_lengths(call->lengths);
     machine *instance = fault == LAPD_OK ? new_machine(heap, IMAGE_ROOM(image)) : new_machine(0, 0);
     if (instance == NULL)
         return fault != LAPD_OK ? fault : LAPD_NO_MEMORY;
@@ -107,6 +111,7 @@ uint32_t lapd_version(void) {
     return LAPD_VERSION;
 }
 
+#ifndef LAPD_NO_OCTETS
 uint32_t lapd_card_start(lapd_card *card, const lapd_config *config) {
     if (card == NULL || config == NULL)
         return LAPD_WRONG_POINTER;
@@ -114,18 +119,19 @@ uint32_t lapd_card_start(lapd_card *card, const lapd_config *config) {
     return start(&card->started, &card->at, config, lapd_card_octets(config), most_of_card(config), &call);
 }
 
-uint32_t lapd_card_start_frames(lapd_card *card, const lapd_config *config) {
-    if (card == NULL || config == NULL)
-        return LAPD_WRONG_POINTER;
-    const start_call call = {w2c_lapd_card_start_frames, NULL, NULL};
-    return start(&card->started, &card->at, config, lapd_card_octets_frames(config), most_of_card(config), &call);
-}
-
 uint32_t lapd_card_start_timed(lapd_card *card, const lapd_config *config, const lapd_lengths *lengths) {
     if (card == NULL || config == NULL || lengths == NULL)
         return LAPD_WRONG_POINTER;
     const start_call call = {NULL, w2c_lapd_card_start_timed, lengths};
     return start(&card->started, &card->at, config, lapd_card_octets_timed(config), most_of_card(config), &call);
+}
+#endif
+
+uint32_t lapd_card_start_frames(lapd_card *card, const lapd_config *config) {
+    if (card == NULL || config == NULL)
+        return LAPD_WRONG_POINTER;
+    const start_call call = {w2c_lapd_card_start_frames, NULL, NULL};
+    return start(&card->started, &card->at, config, lapd_card_octets_frames(config), most_of_card(config), &call);
 }
 
 uint32_t lapd_card_start_frames_timed(lapd_card *card, const lapd_config *config, const lapd_lengths *lengths) {
@@ -257,6 +263,7 @@ uint32_t lapd_clock_restore(lapd_clock *clock, const uint8_t *image, size_t leng
 }
 #endif
 
+#ifndef LAPD_NO_OCTETS
 /* Whether two lengths are one, and the steps not beyond it. */
 static bool is_exchange(size_t taken, size_t given, size_t steps) {
     return taken == given && (steps / 2 < taken || steps == 2 * taken);
@@ -291,6 +298,11 @@ uint32_t lapd_exchange(lapd_card *card, uint32_t line, const uint8_t *in, size_t
             return LAPD_OK;
     }
 }
+#endif
+
+#ifndef LAPD_NO_TEXT
+/* What a null pointer to no octets is taken for. */
+static const uint8_t no_octet = 0;
 
 /* What octets say is said by a machine of its own on the stack, as no card is needed. */
 uint32_t lapd_frame_text(const uint8_t *octets, size_t length, uint16_t side, char *text, size_t room) {
@@ -298,7 +310,7 @@ uint32_t lapd_frame_text(const uint8_t *octets, size_t length, uint16_t side, ch
     union {
         own first;
         u8 room[sizeof(own) + END + BEHIND];
-    } of;
+    } ALIGNED of;
     machine *instance = of.room + sizeof(own);
     if (octets == NULL && length == 0)
         octets = &no_octet;
@@ -317,3 +329,4 @@ uint32_t lapd_frame_text(const uint8_t *octets, size_t length, uint16_t side, ch
     }
     return status;
 }
+#endif

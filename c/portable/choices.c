@@ -8,6 +8,8 @@
  * -DLAPD_MALLOC                malloc also where the compiler says that there is no C library (-ffreestanding)
  * -DLAPD_NO_IMAGES             cards and clocks are not saved: they take lapd_image_octets(&config) octets less, the room for an
  *                              image, and the calls that save and restore are not there
+ * -DLAPD_NO_TEXT               lapd_frame_text is not there; the other texts are lapd.h's, and each is there if it is asked for
+ * -DLAPD_NO_OCTETS             cards are of frames alone: the calls are not there that start one of octets, take octets or give them
  * -DLAPD_SYMBOLS               what lapd.h defines inline is exported, too, for languages that read no header of C
  * -DLAPD_CHECKED               where it would end the program by abort(), it says why before, on standard error
  * -DLAPD_BIG_END_FIRST=0|1     the order of octets, where the compiler does not tell it as GCC and Clang do
@@ -24,8 +26,12 @@
 #define LAPD_MALLOC
 #endif
 
+#if defined(LAPD_SYMBOLS) && defined(LAPD_NO_OCTETS)
+#error "LAPD_SYMBOLS exports calls of octets, and LAPD_NO_OCTETS leaves out what they call"
+#endif
+
 #ifdef __GNUC__
-#pragma GCC diagnostic ignored "-Wunused-function" /* of what was made, some is for tests, and some for images */
+#pragma GCC diagnostic ignored "-Wunused-function" /* of what was made, some is for tests, and some for what was chosen */
 #endif
 #ifdef LAPD_NO_IMAGES
 #define IMAGE_ROOM(octets) ((void)(octets), 0)

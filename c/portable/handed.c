@@ -1,5 +1,6 @@
-/* Where what is handed over lies in a machine's memory: the handle, a report, and whatever else a call has. */
-enum { HANDLE = PLACES, REPORT = PLACES + 16, OTHER = REPORT + REPORT_OCTETS, HEAP = OTHER + OTHER_OCTETS };
+/* Where what is handed over lies in a machine's memory: the handle, whatever a call has, and its report. What a call has that tells
+ * no report may reach into the report's room. */
+enum { HANDLE = PLACES, OTHER = PLACES + 16, REPORT = OTHER + OTHER_OCTETS, HEAP = REPORT + REPORT_OCTETS };
 
 /* So many octets of the caller's, or as many of them as say all that a call asks. */
 static inline size_t at_most(size_t count, size_t most) {

@@ -10,8 +10,23 @@
 #include <stdbool.h>
 #include <stddef.h>
 #include <stdint.h>
+#if !defined(__STDC_HOSTED__) || __STDC_HOSTED__ || defined(LAPD_MALLOC)
 #include <stdlib.h>
 #include <string.h>
+#else
+/* What a program without a C library gives. */
+#ifdef __GNUC__
+__attribute__((noreturn))
+#endif
+void abort(void);
+void *memcpy(void *to, const void *from, size_t count);
+void *memmove(void *to, const void *from, size_t count);
+void *memset(void *to, int octet, size_t count);
+#ifdef __GNUC__ /* Some octets are copied without a call. */
+#define memcpy __builtin_memcpy
+#define memset __builtin_memset
+#endif
+#endif
 
 typedef uint8_t u8;
 typedef int8_t s8;
@@ -74,16 +89,26 @@ typedef struct {
 
 #define AT(at, ahead) &reached(instance, LIMIT, at)->octets[ahead]
 
-/* Loads and stores: so many bits of memory, read as a signed or unsigned number, as a value of the machine. */
-#define DEFINE_LOAD(name, bits, as, value)           \
-    static inline value name(const u8 *from) {       \
-        u##bits octets;                              \
-        memcpy(&octets, from, sizeof octets);        \
-        return (value)(as)TURNED_##bits(octets);     \
+/* A place that is a multiple of 2, 4 or 8, as the kit's compiler says; a machine's memory begins at a multiple of 8. */
+#ifdef __GNUC__
+#define MULTIPLE(of, place) ((of) > 1 ? __builtin_assume_aligned(place, of) : (place))
+#define ALIGNED __attribute__((aligned(8)))
+#else
+#define MULTIPLE(of, place) (place)
+#define ALIGNED
+#endif
+
+/* Loads and stores: so many bits of memory, read as a signed or unsigned number, as a value of the machine. Where a name ends with
+ * a number, the place is a multiple of that. */
+#define DEFINE_LOAD(name, bits, as, value, of)                  \
+    static inline value name(const u8 *from) {                  \
+        u##bits octets;                                         \
+        memcpy(&octets, MULTIPLE(of, from), sizeof octets);     \
+        return (value)(as)TURNED_##bits(octets);                \
     }
-#define DEFINE_STORE(name, bits, value)              \
-    static inline void name(u8 *to, value number) {  \
-        u##bits octets = (u##bits)number;            \
-        octets = TURNED_##bits(octets);              \
-        memcpy(to, &octets, sizeof octets);          \
+#define DEFINE_STORE(name, bits, value, of)                     \
+    static inline void name(u8 *to, value number) {             \
+        u##bits octets = (u##bits)number;                       \
+        octets = TURNED_##bits(octets);                         \
+        memcpy(MULTIPLE(of, to), &octets, sizeof octets);       \
     }

@@ -1,28 +1,49 @@
 /* What lies at a place, which is tested. */
 static inline reach *reached(const machine *instance, u32 most, place at) {
     TEST(at);
-    return (reach *)((u8 *)MEMORY(instance) + at);
+    return (reach *)((uintptr_t)MEMORY(instance) + at);
 }
 
-DEFINE_LOAD(i32_load, 32, u32, u32)
-DEFINE_LOAD(i32_load8_s, 8, s8, u32)
-DEFINE_LOAD(i32_load8_u, 8, u8, u32)
-DEFINE_LOAD(i32_load16_s, 16, s16, u32)
-DEFINE_LOAD(i32_load16_u, 16, u16, u32)
-DEFINE_LOAD(i64_load, 64, u64, u64)
-DEFINE_LOAD(i64_load8_s, 8, s8, u64)
-DEFINE_LOAD(i64_load8_u, 8, u8, u64)
-DEFINE_LOAD(i64_load16_s, 16, s16, u64)
-DEFINE_LOAD(i64_load16_u, 16, u16, u64)
-DEFINE_LOAD(i64_load32_s, 32, s32, u64)
-DEFINE_LOAD(i64_load32_u, 32, u32, u64)
-DEFINE_STORE(i32_store, 32, u32)
-DEFINE_STORE(i32_store8, 8, u32)
-DEFINE_STORE(i32_store16, 16, u32)
-DEFINE_STORE(i64_store, 64, u64)
-DEFINE_STORE(i64_store8, 8, u64)
-DEFINE_STORE(i64_store16, 16, u64)
-DEFINE_STORE(i64_store32, 32, u64)
+/* What lies at a place of a table, which is tested. */
+static inline const u8 *within(const u8 *table, u32 most, place at) {
+    TEST(at);
+    return table + at;
+}
+
+#define IN(table, at) within(table, sizeof(table) - WIDEST - 1, at)
+
+DEFINE_LOAD(i32_load, 32, u32, u32, 1)
+DEFINE_LOAD(i32_load_4, 32, u32, u32, 4)
+DEFINE_LOAD(i32_load8_s, 8, s8, u32, 1)
+DEFINE_LOAD(i32_load8_u, 8, u8, u32, 1)
+DEFINE_LOAD(i32_load16_s, 16, s16, u32, 1)
+DEFINE_LOAD(i32_load16_s_2, 16, s16, u32, 2)
+DEFINE_LOAD(i32_load16_u, 16, u16, u32, 1)
+DEFINE_LOAD(i32_load16_u_2, 16, u16, u32, 2)
+DEFINE_LOAD(i64_load, 64, u64, u64, 1)
+DEFINE_LOAD(i64_load_8, 64, u64, u64, 8)
+DEFINE_LOAD(i64_load8_s, 8, s8, u64, 1)
+DEFINE_LOAD(i64_load8_u, 8, u8, u64, 1)
+DEFINE_LOAD(i64_load16_s, 16, s16, u64, 1)
+DEFINE_LOAD(i64_load16_s_2, 16, s16, u64, 2)
+DEFINE_LOAD(i64_load16_u, 16, u16, u64, 1)
+DEFINE_LOAD(i64_load16_u_2, 16, u16, u64, 2)
+DEFINE_LOAD(i64_load32_s, 32, s32, u64, 1)
+DEFINE_LOAD(i64_load32_s_4, 32, s32, u64, 4)
+DEFINE_LOAD(i64_load32_u, 32, u32, u64, 1)
+DEFINE_LOAD(i64_load32_u_4, 32, u32, u64, 4)
+DEFINE_STORE(i32_store, 32, u32, 1)
+DEFINE_STORE(i32_store_4, 32, u32, 4)
+DEFINE_STORE(i32_store8, 8, u32, 1)
+DEFINE_STORE(i32_store16, 16, u32, 1)
+DEFINE_STORE(i32_store16_2, 16, u32, 2)
+DEFINE_STORE(i64_store, 64, u64, 1)
+DEFINE_STORE(i64_store_8, 64, u64, 8)
+DEFINE_STORE(i64_store8, 8, u64, 1)
+DEFINE_STORE(i64_store16, 16, u64, 1)
+DEFINE_STORE(i64_store16_2, 16, u64, 2)
+DEFINE_STORE(i64_store32, 32, u64, 1)
+DEFINE_STORE(i64_store32_4, 32, u64, 4)
 
 static inline void memory_fill(machine *instance, u32 at, u32 octet, u32 count) {
     TEST_BLOCK(at, count);

@@ -41,7 +41,8 @@ typedef struct gateway gateway;
 
 /* A gateway, which begins as GATEWAY_NONE; its callback is set before the start. */
 struct gateway {
-    /* What an event led to, at report->line, where it led to notes, contents, a drop, a loss or room, or gave something up. */
+    /* What an event led to, at report->line, where it led to notes, contents, a drop, a loss or room, or gave something up: that is
+     * of report->given_up_tei, also if there is no note, as of a release that is granted. */
     void (*on_report)(gateway *own, const lapd_report *report);
     lapd_card card;
     uint64_t now; /* the latest moment that it was told */
@@ -52,7 +53,8 @@ struct gateway {
 #define GATEWAY_NONE { NULL, LAPD_CARD_NONE, 0, NULL, false }
 
 /* Starts the card, at moment 0. LAPD_SECOND_START, the first bad field of the configuration (LAPD_BAD_LINES to
- * LAPD_BAD_READING), LAPD_WRONG_TIME of a length, or LAPD_NO_MEMORY: none that was not there before is there. */
+ * LAPD_BAD_READING, or LAPD_BAD_RESERVED, also of the lengths), LAPD_WRONG_TIME of a length, or LAPD_NO_MEMORY: none that was
+ * not there before is there. */
 LAPD_STATUS gateway_start(gateway *own, const lapd_config *config, const lapd_lengths *lengths);
 
 /* Tells all terminals of a line to give up the TEIs that they still use, twice, since one message may be lost. It is called
@@ -84,14 +86,14 @@ LAPD_STATUS gateway_ask(gateway *own, uint64_t now, uint32_t line, uint8_t reque
  * meanwhile: what is asked for then may wait, and its timer runs. */
 LAPD_STATUS gateway_down(gateway *own, uint32_t line);
 
-/* Takes the next frame of a line to send, without a check; *more says whether another waited behind it. It counts as sent
+/* Takes the next frame of a line to send, without a check; *more says whether another waited after it. It counts as sent
  * from now on, and T200 of an I-frame runs: take one when the controller has room for it. LAPD_NO_FRAME: none waits.
  * LAPD_WRONG_LENGTH: `room` is less than n201 and four; LAPD_MOST_FRAME is always enough. */
 LAPD_STATUS gateway_take(gateway *own, uint64_t now, uint32_t line, uint8_t *frame, size_t room, size_t *length,
                          bool *more);
 
 /* Management asks whether the next automatic TEI of a line, from *place on, is still in use: *place is 0 for the first,
- * and each call leaves it behind the TEI that it asked for. So audit a line where LAPD_BEGUN_DENIED of lapd_counters has
+ * and each call leaves it after the TEI that it asked for. So audit a line where LAPD_BEGUN_DENIED of lapd_counters has
  * risen; a TEI that no terminal has leaves the line within two T201, which on_report hears of. LAPD_NO_MORE_LINKS: there
  * is none from there on. LAPD_REFUSED_CHECK_RUNNING, LAPD_REFUSED_CONTROL_FULL: call again later, with the same place. */
 LAPD_STATUS gateway_audit(gateway *own, uint64_t now, uint32_t line, uint8_t *place);

@@ -150,7 +150,7 @@ static bool run(void) {
     config.terminals = 1;
     config.side = LAPD_TERMINAL;
     if (own.record != NULL)
-        fprintf(own.record, "card " TERMINAL_NUMBERS " user %u\n", config.seed);
+        fprintf(own.record, "card " TERMINAL_NUMBERS " user %u annex-b\n", config.seed);
     bool is_good = linecard_begin(&own, lapd_card_start_timed(&own.card, &config, &linecard_lengths)) && serve();
     return linecard_end(&own) && is_good;
 }

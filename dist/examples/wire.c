@@ -103,7 +103,7 @@ static size_t contents_of(const wire_end *end, uint32_t number, uint8_t *octets)
 
 /* ---- The record ------------------------------------------------------------------------------------------------- */
 
-/* Writes a line of the script of an end: words, and octets behind them. */
+/* Writes a line of the script of an end: words, and octets after them. */
 static void record(wire_end *end, const char *words, const uint8_t *octets, size_t length) {
     if (end->record == NULL)
         return;
@@ -123,7 +123,7 @@ static FILE *record_to(const char *path, const wire_end *end) {
         file = fopen(name, "w");
     if (file == NULL)
         fail(end, "its record cannot be written");
-    fprintf(file, "frames " TRUNK_NUMBERS "%s\n", end->side == LAPD_USER ? " user" : "");
+    fprintf(file, "frames " TRUNK_NUMBERS "%s annex-b\n", end->side == LAPD_USER ? " user" : "");
     return file;
 }
 

@@ -21,7 +21,10 @@ typedef struct {
     size_t length, room;
 } text;
 
-enum { MOST_NAME = 80, MOST_COUNT = 100000, LEAST_SCRIPTS = 400 };
+#ifndef LEAST_SCRIPTS /* so many are in the table at least */
+#define LEAST_SCRIPTS 400
+#endif
+enum { MOST_NAME = 80, MOST_COUNT = 100000 };
 
 static struct {
     char name[MOST_NAME], fault[MOST_NAME];

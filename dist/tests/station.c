@@ -33,31 +33,26 @@ static void want_ok(uint32_t status, const char *call) {
 }
 
 /* Writes what a TEI's links gave up. */
-static void tell_losses(const station *b, uint32_t line, unsigned tei, const lapd_report *report) {
+static void tell_losses(const station *b, uint32_t line, const lapd_report *report) {
     if (b->losses && report->given_up != 0)
-        fprintf(b->to, "%u given-up %u %u\n", line, tei, report->given_up);
+        fprintf(b->to, "%u given-up %u %u\n", line, report->given_up_tei, report->given_up);
     if (b->losses && report->given_up_16 != 0)
-        fprintf(b->to, "%u given-up-16 %u %u\n", line, tei, report->given_up_16);
+        fprintf(b->to, "%u given-up-16 %u %u\n", line, report->given_up_tei, report->given_up_16);
 }
 
-/* Writes what an event of a TEI told, and hands its orders to the clock. */
-static void tell_of(station *b, uint32_t line, unsigned tei, const lapd_report *report) {
+/* Writes what an event told, and hands its orders to the clock. */
+static void tell(station *b, uint32_t line, const lapd_report *report) {
     for (int i = 0; i < report->note_count; i++)
         put_note(b, line, &report->notes[i], report);
     if (report->cause != 0)
         fprintf(b->to, "%u dropped %s\n", line, lapd_cause_text(report->cause));
     if (report->lost != 0)
         fprintf(b->to, "%u lost %u\n", line, report->lost);
-    tell_losses(b, line, tei, report);
+    tell_losses(b, line, report);
     if (b->is_timed)
         want_ok(report->order_count == 0 ? LAPD_OK : LAPD_WRONG_ORDER, "orders of a card with timers of its own");
     else
         want_ok(lapd_clock_apply_report(&b->clock, line, report, b->now), "orders of the card");
-}
-
-/* The first note has the TEI: what an event gives up is noted, unless layer 3 asked for it. */
-static void tell(station *b, uint32_t line, const lapd_report *report) {
-    tell_of(b, line, report->note_count > 0 ? report->notes[0].tei : LAPD_GROUP_TEI, report);
 }
 
 static uint32_t start_card(station *b, const lapd_config *config) {
@@ -269,7 +264,7 @@ static void ask(station *b, uint32_t line, const command *c) {
         return;
     }
     want_ok(status, "request");
-    tell_of(b, line, c->numbers[1], &report);
+    tell(b, line, &report);
 }
 
 /* The whole line goes down, a link a call. */
@@ -347,7 +342,7 @@ static fault obeyed(station *b, const command *c) {
     if (c->verb == WAIT)
         return wait(b, c->numbers[0]);
     if (c->verb == TIMERS) {
-        const lapd_lengths of = {c->numbers[0], c->numbers[1], c->numbers[2], c->numbers[3]};
+        const lapd_lengths of = {c->numbers[0], c->numbers[1], c->numbers[2], c->numbers[3], {0}};
         uint32_t status = b->is_timed ? lapd_card_set_lengths(&b->card, &of)
                                       : lapd_clock_set_lengths(&b->clock, of.t200, of.t203, of.t201, of.t202);
         return status == LAPD_OK ? NO_FAULT : BAD_NUMBER;
@@ -393,5 +388,5 @@ void station_fault(FILE *to, fault kind, size_t number) {
     if (kind == NO_MEMORY)
         fprintf(to, "%s\n", fault_text(kind));
     else if (kind != NO_FAULT)
-        fprintf(to, "line %zu: %s\n", number, fault_text(kind));
+        fprintf(to, "line %lu: %s\n", (unsigned long)number, fault_text(kind)); /* small C libraries have no %zu */
 }

@@ -1,7 +1,7 @@
 /*
  * dahdi.c: a card on a D-channel of DAHDI, the drivers of the telephony cards of the Asterisk PBX. DAHDI has layer 1, and HDLC
  * with its check, by its software or by the hardware (dchan or hardhdlc in its system.conf). The D-channel ends here. A device
- * takes and gives a frame a write and a read, with two octets behind it for the check. Its events are read in between: alarms
+ * takes and gives a frame a write and a read, with two octets after it for the check. Its events are read in between: alarms
  * say whether layer 1 is there, and a fault may come in place of a frame. dchannel.h says what the card and its layer 3 do. No
  * other program, as a PBX, may have the channel.
  *
@@ -110,7 +110,7 @@ static bool has_room(void) {
     return poll(&line, 1, 0) == 1 && (line.revents & POLLOUT) != 0;
 }
 
-/* A frame goes, with room for its check behind it. If an event waits, it is taken first. One for which there is no room after
+/* A frame goes, with room for its check after it. If an event waits, it is taken first. One for which there is no room after
  * all is as lost on the line. */
 static bool send_frame(uint8_t *frame, size_t length) {
     memset(frame + length, 0, CHECK_OCTETS);

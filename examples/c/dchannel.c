@@ -240,7 +240,7 @@ bool dchannel_begin(dchannel *own) {
     sigaction(SIGTERM, &end, NULL);
     if (own->card.record != NULL) {
         put_numbers(own->card.record, &config);
-        fprintf(own->card.record, own->is_user && !own->is_primary ? " user %u\n" : own->is_user ? " user\n" : "\n", config.seed);
+        fprintf(own->card.record, own->is_user && !own->is_primary ? " user %u annex-b\n" : own->is_user ? " user annex-b\n" : " annex-b\n", config.seed);
     }
     if (own->capture != NULL)
         pcap_begin(own->capture);

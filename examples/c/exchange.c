@@ -97,7 +97,7 @@ static bool serve(void) {
 /* Starts the card, serves the line, and ends; whether all went well. */
 static bool run(void) {
     if (own.record != NULL)
-        fprintf(own.record, "card " LINECARD_NUMBERS "\n");
+        fprintf(own.record, "card " LINECARD_NUMBERS " annex-b\n");
     if (capture != NULL)
         pcap_begin(capture);
     uint32_t status = lapd_card_start_timed(&own.card, &linecard_config, &linecard_lengths);

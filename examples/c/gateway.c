@@ -113,14 +113,14 @@ uint32_t gateway_take(gateway *own, uint64_t now, uint32_t line, uint8_t *frame,
 }
 
 uint32_t gateway_audit(gateway *own, uint64_t now, uint32_t line, uint8_t *place) {
-    uint8_t behind = *place;
+    uint8_t after = *place;
     uint32_t status;
     lapd_link link; /* a TEI has one for each service */
-    while ((status = lapd_next_link(&own->card, line, &behind, &link)) == LAPD_OK)
+    while ((status = lapd_next_link(&own->card, line, &after, &link)) == LAPD_OK)
         if (link.service == LAPD_CALL && link.tei >= FIRST_AUTOMATIC_TEI) {
             status = gateway_ask(own, now, line, LAPD_CHECK, LAPD_CALL, link.tei, NULL, 0);
             if (status == LAPD_OK)
-                *place = behind;
+                *place = after;
             break;
         }
     return status;

@@ -8,7 +8,7 @@
  *     hardware [--trace] [--check] [RECORD [CAPTURE]] <> LINE
  *
  * With --trace standard error has a log of each frame, note, expiry and state as well (trace.c).
- * With --check two octets stand behind each frame, in place of its check, as DAHDI's D-channels have them; without it
+ * With --check two octets follow each frame, in place of its check, as DAHDI's D-channels have them; without it
  * the frame is all, as in Linux's LAPD devices. Standard error tells what layer 3 is told. With RECORD, all that
  * happens is written there as a script of docs/FORMAT.md: `lapdsim run < RECORD` then shows the same. With CAPTURE, the
  * frames of both ways are written there for Wireshark (pcap.c). A frame of no octets, or the other side's end, ends the
@@ -35,7 +35,7 @@ static const char help[] =
     "Standard error tells what layer 3 is told.\n"
     "\n"
     "  --trace  a log of each frame, note, expiry and state on standard error\n"
-    "  --check  two octets stand behind each frame, in place of its check\n"
+    "  --check  two octets follow each frame, in place of its check\n"
     "  RECORD   a file for all that happens, as a script: lapdsim run < RECORD shows the same\n"
     "  CAPTURE  a file for the frames of both ways, for Wireshark\n";
 
@@ -71,7 +71,7 @@ static bool take(const uint8_t *datagram, size_t length) {
     return true;
 }
 
-/* A frame goes to the line, with room for a check behind it. */
+/* A frame goes to the line, with room for a check after it. */
 static bool send_frame(uint8_t *datagram, size_t length) {
     if (own.log != NULL)
         trace_frame(own.log, own.now, 0, true, datagram, length, length);
@@ -128,7 +128,7 @@ static bool serve(void) {
 /* Starts the card, disowns the TEIs of an earlier run, serves the line, and ends; whether all went well. */
 static bool run(void) {
     if (own.record != NULL)
-        fprintf(own.record, "frames " LINECARD_NUMBERS "\n");
+        fprintf(own.record, "frames " LINECARD_NUMBERS " annex-b\n");
     if (capture != NULL)
         pcap_begin(capture);
     uint32_t status = lapd_card_start_frames_timed(&own.card, &linecard_config, &linecard_lengths);

@@ -50,7 +50,7 @@ void trace_heads(trace *log, uint64_t milliseconds, lapd_card *card, const lapd_
     log->heard[line] = heard;
 }
 
-/* What stands behind a word about a packet link: -16, or another SAPI. Of call control nothing does. */
+/* What follows a word about a packet link: -16, or another SAPI. Of call control nothing does. */
 static const char *ending_of(const trace *log, uint8_t service, char *room) {
     if (service != LAPD_PACKET)
         return "";
@@ -134,7 +134,8 @@ void trace_report(trace *log, uint64_t milliseconds, lapd_card *card, const lapd
     }
     if (report->given_up != 0 || report->given_up_16 != 0) {
         begin(log, milliseconds, line, " ");
-        fprintf(log->to, "given up %u, of the second service %u\n", report->given_up, report->given_up_16);
+        fprintf(log->to, "given up of TEI %u: %u, of the second service %u\n", report->given_up_tei, report->given_up,
+                report->given_up_16);
     }
     for (unsigned i = 0; i < report->order_count; i++) {
         begin(log, milliseconds, line, " ");

@@ -12,7 +12,7 @@ namespace {
 using lapd::service;
 using lapd::status;
 
-const lapd_config config = {2, 8, 7, 7, 8, 4, 4, 64, 260, 3, LAPD_NETWORK, 0, 0, LAPD_PROFILE};
+const lapd_config config = {2, 8, 7, 7, 8, 4, 4, 64, 260, 3, LAPD_NETWORK, 0, 0, LAPD_PROFILE, {}};
 const uint8_t sabme[] = {0x00, 0x81, 0x7F}, ua[] = {0x02, 0x81, 0x73};
 bool is_good = true;
 
@@ -38,7 +38,7 @@ void asks(lapd::any_card &card) {
     lapd::room room{};
     wants(card.room_of(1, service::call, 64, room) == status::ok && room.pool == 63 && room.queue == 7 && room.va == 0, "a room");
     wants(card.room_of(1, service::call, 65, room) == status::refused_no_link && room.pool == 63, "no room");
-    struct lapd_link_counters counted = {9, 9, 9, 9, 9};
+    struct lapd_link_counters counted = {9, 9, 9, 9, 9, {9}};
     wants(card.link_counters(1, service::call, 65, counted) == status::refused_no_link && counted.established == 9, "no counters of a link");
     wants(card.link_counters(1, service::call, 64, counted) == status::ok && counted.established == 1 && counted.sent_again == 0
               && counted.t200_expired == 0 && counted.rejects_sent == 0 && counted.rejects_received == 0, "counters of a link");
@@ -62,7 +62,7 @@ void asks_words() {
     wants(lapd::frame_text(sabme, LAPD_USER, text) == status::ok && std::strcmp(text, "sapi 0 tei 64 command sabme p 1 info -") == 0, "a frame in words");
     wants(lapd::frame_text(sabme, LAPD_USER, lapd::span<char>(text, 10)) == status::wrong_length && text[0] == 's', "words in little room");
     wants(lapd::frame_text({}, LAPD_NETWORK, text) == status::ok && std::strcmp(text, "frame: short") == 0, "no frame in words");
-    const lapd_note packet = {LAPD_ERROR_INDICATION, LAPD_PACKET, 64, 'F'};
+    const lapd_note packet = {LAPD_ERROR_INDICATION, LAPD_PACKET, 64, 'F', {}};
     lapd_config of = config;
     of.sapi = 62;
     wants(lapd::note(packet).text(of, text) == status::ok && std::strcmp(text, "error sapi 62") == 0, "a note with its SAPI");
@@ -72,7 +72,7 @@ void asks_words() {
 }
 
 void asks_octets(lapd::card &card, lapd::report &report) {
-    lapd_head head = {1, {0}};
+    lapd_head head = {1, {0}, {0}};
     wants(card.begun(1, head) == status::ok && head.length == 0, "no begun frame");
     for (uint8_t octet : {0x7E, 0x00, 0x81, 0xEF, 0x50, 0xB1, 0xFD, 0xFC})
         wants(card.octet(1, octet, report) == status::ok, "an octet");
@@ -146,16 +146,16 @@ void asks_timers(lapd::any_card &card) {
     const lapd::timer expired = report.expired_timer();
     wants(report.expired() && expired.kind == lapd::timer_kind::t200 && expired.service == service::call && expired.tei == 64, "another timer fell due");
     wants(card.fall_due(6000, report) == status::no_timer && card.next_moment(moment) == status::ok && moment == 7000, "T200 again");
-    wants(card.set_lengths({500, 10000, 1000, 2000}) == status::ok && card.set_lengths({0, 1, 1, 1}) == status::wrong_time
+    wants(card.set_lengths({500, 10000, 1000, 2000, {}}) == status::ok && card.set_lengths({0, 1, 1, 1, {}}) == status::wrong_time
               && card.next_moment(moment) == status::ok && moment == 7000, "T200 that runs keeps its length");
     wants(card.fall_due(7000, report) == status::ok && card.next_moment(moment) == status::ok && moment == 7500, "another length of T200");
     wants(card.changed_at(1, service::call, 64, moment) == status::ok && moment == 5000, "SABME goes again, and the state is the same");
     wants(card.expire(1, lapd::timer({LAPD_T200, LAPD_CALL, 64}), report) == status::wrong_card, "an expiry that is not its own");
-    wants(card.end() == status::ok && card.set_lengths({1, 1, 1, 1}) == status::no_card && card.fall_due(7000, report) == status::no_card && card.next_moment(moment) == status::no_card, "its end");
+    wants(card.end() == status::ok && card.set_lengths({1, 1, 1, 1, {}}) == status::no_card && card.fall_due(7000, report) == status::no_card && card.next_moment(moment) == status::no_card, "its end");
 }
 
 void asks_timed(lapd::card &octets, lapd::frame_card &frames) {
-    const lapd_lengths lengths = {1000, 10000, 1000, 2000}, wrong = {1000, 10000, 0, 2000};
+    const lapd_lengths lengths = {1000, 10000, 1000, 2000, {}}, wrong = {1000, 10000, 0, 2000, {}};
     lapd::report report;
     uint64_t moment = 7;
     wants(octets.start(config, wrong) == status::wrong_time && frames.start(config, wrong) == status::wrong_time, "wrong lengths");

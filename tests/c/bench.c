@@ -2,16 +2,24 @@
  * bench.c: has a card through the C library take and give octets in turn, call by call or by lapd_exchange, as tool_bench
  * does with the card from Rattle: see tests/c/speed, which measures both. For tests alone.
  *
- *     bench calls|timed|exchange idle|frames ROUNDS
+ *     bench calls|timed|exchange idle|frames ROUNDS [BEFORE]
  *
  * One line. A round of `idle` is 1,024 flags that come, one of `frames` 128 I-frames with 64 octets of information; each
  * octet that comes is followed by one that goes. With `timed` a clock is there, which carries out all orders and is asked after
  * each octet what is due, which is none. Prints how many octets came and went, how many contents were delivered,
- * and the sum of the octets that went.
+ * and the sum of the octets that went. With BEFORE it has done so many rounds already, and compiled with -DCOUNTED it has
+ * callgrind begin to count then (--instr-atstart=no).
  */
 #include <stdio.h>
 #include <stdlib.h>
 #include <string.h>
+
+#ifdef COUNTED
+#include <valgrind/callgrind.h>
+#else
+#define CALLGRIND_START_INSTRUMENTATION ((void)0)
+#define CALLGRIND_STOP_INSTRUMENTATION ((void)0)
+#endif
 
 #include "hdlc.h"
 #include "lapd.h"
@@ -24,7 +32,7 @@ static lapd_report report;
 static uint8_t stream[MOST_STREAM], out[MOST_STREAM];
 static unsigned long long delivered;
 
-/* Octets of a sender until less than one is left, behind those that there are. */
+/* Octets of a sender until less than one is left, after those that there are. */
 static size_t sent(hdlc_sender *sender, size_t count) {
     while (hdlc_busy(sender))
         stream[count++] = hdlc_octet(sender);
@@ -111,21 +119,26 @@ static const struct {
 
 int main(int words, char **word) {
     size_t at = 0;
-    while (words == 4 && at < 3 && strcmp(word[1], ways[at].name) != 0)
+    while (words >= 4 && at < 3 && strcmp(word[1], ways[at].name) != 0)
         at++;
-    if (words != 4 || at == 3 || (strcmp(word[2], "idle") != 0 && strcmp(word[2], "frames") != 0)) {
-        fprintf(stderr, "usage: bench calls|timed|exchange idle|frames ROUNDS\n");
+    if (words < 4 || words > 5 || at == 3 || (strcmp(word[2], "idle") != 0 && strcmp(word[2], "frames") != 0)) {
+        fprintf(stderr, "usage: bench calls|timed|exchange idle|frames ROUNDS [BEFORE]\n");
         return 2;
     }
     if (!start())
         return 1;
     unsigned long long rounds = strtoull(word[3], NULL, 10), sum = 0;
     size_t count = make_stream(word[2]);
+    for (unsigned long long before = words > 4 ? strtoull(word[4], NULL, 10) : 0; before > 0; before--)
+        ways[at].serve(count);
+    delivered = 0;
+    CALLGRIND_START_INSTRUMENTATION;
     for (unsigned long long round = 0; round < rounds; round++) {
         ways[at].serve(count);
         for (size_t i = 0; i < count; i++)
             sum += out[i];
     }
+    CALLGRIND_STOP_INSTRUMENTATION;
     printf("%llu octets %llu delivered sum %llu\n", 2 * rounds * count, delivered, sum);
     return lapd_card_free(&card) != LAPD_OK || lapd_clock_free(&timers) != LAPD_OK;
 }

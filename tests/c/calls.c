@@ -43,7 +43,7 @@ static unsigned first_from(uint32_t line, unsigned place, lapd_link *link) {
 /* From each place on, also from those that are none. */
 static void look_at(uint32_t line, unsigned links) {
     for (unsigned from = 0; from < 256; from++) {
-        lapd_link link = {1, 2, 3}, wanted;
+        lapd_link link = {1, 2, 3, {4}}, wanted = {0, 0, 0, {0}};
         uint8_t place = (uint8_t)from;
         uint32_t status = lapd_next_link(&card, line, &place, &link);
         unsigned at = first_from(line, from, &wanted);
@@ -65,10 +65,10 @@ static void presets(void) {
     static const lapd_config basic = LAPD_BASIC_ACCESS, primary = LAPD_PRIMARY_RATE;
     static const lapd_config bus = {.lines = 1, .terminals = 8, .k = 1, .k16 = 3, .queue = 8, .unit_queue = 4, .control = 4,
                                     .slots = 132, .n201 = 260, .n200 = 3, .side = LAPD_NETWORK, .seed = 0, .sapi = 0,
-                                    .reading = LAPD_PROFILE};
+                                    .reading = LAPD_ANNEX_B};
     static const lapd_config trunk = {.lines = 1, .terminals = 1, .k = 7, .k16 = 7, .queue = 8, .unit_queue = 4, .control = 4,
                                       .slots = 20, .n201 = 260, .n200 = 3, .side = LAPD_NETWORK, .seed = 0, .sapi = 0,
-                                      .reading = LAPD_PROFILE};
+                                      .reading = LAPD_ANNEX_B};
     static const lapd_lengths lengths = LAPD_DEFAULT_LENGTHS;
     wants(memcmp(&basic, &bus, sizeof bus) == 0 && memcmp(&primary, &trunk, sizeof trunk) == 0, "another usual configuration");
     wants(memcmp(&lengths, &lengths_of, sizeof lengths_of) == 0, "other usual lengths");
@@ -76,11 +76,11 @@ static void presets(void) {
 
 static void wrong_calls(void) {
     lapd_card none = LAPD_CARD_NONE;
-    lapd_link link = {1, 2, 3};
+    lapd_link link = {1, 2, 3, {4}};
     uint8_t place = 7;
     wants(lapd_next_link(&none, 0, &place, &link) == LAPD_NO_CARD, "a link of no card");
     wants(lapd_next_link(&card, LINES, &place, &link) == LAPD_WRONG_LINE, "a link of no line");
-    lapd_head head = {1, {2, 3, 4, 5}};
+    lapd_head head = {1, {2, 3, 4, 5}, {6}};
     wants(lapd_begun(&none, 0, &head) == LAPD_NO_CARD, "a frame of no card");
     wants(lapd_begun(&card, LINES, &head) == LAPD_WRONG_LINE, "a frame of no line");
     wants(lapd_heard(&none, 0, &head) == LAPD_NO_CARD, "a frame that no card heard");
@@ -136,7 +136,7 @@ static void send(uint8_t *octets, size_t length) {
 
 /* The frame that a pull of line 0 began last has these octets, and so many. */
 static bool has_begun(const uint8_t *octets, size_t length) {
-    lapd_head head = {1, {2, 3, 4, 5}};
+    lapd_head head = {1, {2, 3, 4, 5}, {6}};
     uint8_t out[LAPD_MOST_FRAME];
     size_t count = 0;
     return lapd_begun(&card, 0, &head) == LAPD_OK && head.length == length && memcmp(head.octets, octets, 4) == 0
@@ -161,7 +161,7 @@ static void echo(void) {
     static const uint8_t sabme[] = {0x00, 0x81, 0x7F}, data[] = {0x00, 0x81, 0x00, 0x00, 0x11, 0x22, 0x33, 0x44};
     static hdlc_sender sender;
     lapd_report told = report;
-    lapd_head head = {1, {2, 3, 4, 5}};
+    lapd_head head = {1, {2, 3, 4, 5}, {6}};
     uint8_t octets[32], whole[] = {0x02, 0x81, 0x00, 0x02, 0x11, 0x22, 0x33, 0x44};
     hdlc_begin(&sender);
     hear(&sender, sabme, sizeof sabme, &told);
@@ -209,7 +209,7 @@ static void two_reports(void) {
 
 /* The room of TEI 64 on line 0 is this. */
 static bool has_room(uint8_t queue, uint32_t pool, uint8_t va) {
-    struct lapd_room room = {1, 2, 3};
+    struct lapd_room room = {1, 2, 3, {4}};
     return lapd_room(&card, 0, LAPD_CALL, 64, &room) == LAPD_OK && room.queue == queue && room.pool == pool
            && room.va == va;
 }
@@ -240,7 +240,7 @@ static void rooms(void) {
 
 static void rooms_of_nobody(void) {
     lapd_card none = LAPD_CARD_NONE;
-    struct lapd_room room = {1, 2, 3};
+    struct lapd_room room = {1, 2, 3, {4}};
     wants(lapd_room(&none, 0, LAPD_CALL, 64, &room) == LAPD_NO_CARD, "room of no card");
     wants(lapd_room(&card, LINES, LAPD_CALL, 64, &room) == LAPD_WRONG_LINE, "room of no line");
     wants(lapd_room(&card, 0, 1, 64, &room) == LAPD_WRONG_SERVICE, "room of no service");
@@ -276,7 +276,7 @@ static bool has_counted(unsigned place, uint64_t value) {
 
 /* After an echo of one I-frame, and an acknowledgement. */
 static void counts(void) {
-    struct lapd_counters counters = {{7}};
+    struct lapd_counters counters = {{7}, {8}};
     lapd_card none = LAPD_CARD_NONE;
     wants(lapd_counters(&none, 0, &counters) == LAPD_NO_CARD, "counters of no card");
     wants(lapd_counters(&card, LINES, &counters) == LAPD_WRONG_LINE, "counters of no line");
@@ -343,7 +343,7 @@ static unsigned count_up(uint32_t line) {
     return count;
 }
 
-/* What waits on the line and is of no link is given up, too: no frame goes behind it, and a check that ran has ended. */
+/* What waits on the line and is of no link is given up, too: no frame goes after it, and a check that ran has ended. */
 static void nothing_waits(void) {
     uint64_t moment = 0;
     uint8_t octet = 8;
@@ -362,7 +362,7 @@ static void nothing_waits(void) {
     wants(ended == 2, "the second check does not end");
 }
 
-/* A line that goes down: each link that was up tells its release, and none is up behind it. */
+/* A line that goes down: each link that was up tells its release, and none is up after it. */
 static void line_down(unsigned links) {
     unsigned up = count_up(0);
     wants(up > 0, "no link is up");
@@ -379,7 +379,7 @@ static void line_down(unsigned links) {
         calls++;
     wants(calls == links + 1, "another number of calls than of links, and one for the line");
     wants(place == 0xFF, "the line goes down twice");
-    wants(lapd_line_down(&card, 0, &place, &report) == LAPD_NO_MORE_LINKS, "a link behind the last");
+    wants(lapd_line_down(&card, 0, &place, &report) == LAPD_NO_MORE_LINKS, "a link after the last");
     wants(lapd_line_down(&card, LINES, &place, &report) == LAPD_WRONG_LINE, "no line goes down");
     wants(lapd_clock_free(&timers) == LAPD_OK, "a clock stays");
 }
@@ -439,7 +439,7 @@ static void notes_with_sapi(void) {
     for (unsigned kind = 0; kind <= LAPD_REMOVE_ALL + 1; kind++) {
         for (uint16_t sapi = 0; sapi <= 62; sapi++) {
             lapd_config of = config;
-            lapd_note call = {(uint8_t)kind, LAPD_CALL, 64, 0}, packet = {(uint8_t)kind, LAPD_PACKET, 64, 0};
+            lapd_note call = {(uint8_t)kind, LAPD_CALL, 64, 0, {0}}, packet = {(uint8_t)kind, LAPD_PACKET, 64, 0, {0}};
             bool is_of_link = strcmp(lapd_note_text(&call), lapd_note_text(&packet)) != 0;
             of.sapi = sapi;
             snprintf(wanted, sizeof wanted, is_of_link ? "%s sapi %u" : "%s", lapd_note_text(&call), sapi == 0 ? 16u : sapi);

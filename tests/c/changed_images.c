@@ -105,7 +105,7 @@ static void happens(lapd_card *card, uint32_t lines) {
 
 /* A card of any kind, of a small configuration. */
 static uint32_t starts(lapd_card *card, lapd_config *config) {
-    const lapd_lengths lengths = {1 + below(100), 1 + below(1000), 1 + below(100), 1 + below(100)};
+    const lapd_lengths lengths = {1 + below(100), 1 + below(1000), 1 + below(100), 1 + below(100), {0}};
     uint16_t k = (uint16_t)(1 + below(3)), k16 = (uint16_t)(1 + below(3)), queue = (uint16_t)((k > k16 ? k : k16) + below(3));
     lapd_config it = {.lines = (uint16_t)(1 + below(3)), .terminals = (uint16_t)(1 + below(4)), .k = k, .k16 = k16, .queue = queue,
                       .unit_queue = (uint16_t)(1 + below(3)), .control = (uint16_t)(2 + below(3)), .slots = (uint16_t)(4 + below(20)),
@@ -163,7 +163,7 @@ static void makes_clock(image *of) {
 
 /* ---- Changes ---------------------------------------------------------------------------------------------------------- */
 
-/* A place: half of them lie in the first octets, since those behind are mostly counters. */
+/* A place: half of them lie in the first octets, since those after them are mostly counters. */
 static size_t place(void) {
     size_t most = changed.length < 100 || below(2) ? changed.length : 100;
     return below((unsigned)most);

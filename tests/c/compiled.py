@@ -24,10 +24,10 @@ def skip(what, why, required="CC_TESTS"):
         print(f"c: SKIPPED: {what}, since {why}")
 
 
-def run(words, stdin=None, env=None, given=None, timeout=600):
+def run(words, stdin=None, env=None, given=None, timeout=600, cwd=None):
     """Runs a program, whose input is a file, or octets that are given."""
     source = {"stdin": stdin} if given is None else {"input": given}
-    return subprocess.run(words, **source, capture_output=True, env={**os.environ, **(env or {})}, timeout=timeout)
+    return subprocess.run(words, **source, capture_output=True, env={**os.environ, **(env or {})}, timeout=timeout, cwd=cwd)
 
 
 def read(path, otherwise=b""):

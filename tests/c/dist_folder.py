@@ -239,7 +239,8 @@ def installed(dist):
     said = run(["cmake", "--install", at, "--prefix", to])
     check("CMake installs", said.returncode == 0, (said.stdout + said.stderr).decode()[-600:])
     there = {os.path.relpath(f"{folder}/{it}", to) for folder, _, those in os.walk(to) for it in those}
-    examples = {f"share/lapd/examples/{it}" for it in os.listdir(f"{dist.files}/examples")}
+    examples = {f"share/lapd/{os.path.relpath(f'{folder}/{it}', dist.files)}" for folder, _, those in os.walk(f"{dist.files}/examples")
+                for it in those}
     wanted = examples | {f"include/{it}" for it in ("lapd.h", "lapd_checked.h", "lapd_memory.h", "lapd.hpp")} | {
         f"lib/{it}" for it in ("liblapd.a", "liblapd-static.a", "liblapd_card.a", "liblapd.so", "liblapd.so.1", "liblapd.so.1.0")} | {
         "lib/pkgconfig/lapd.pc", "lib/pkgconfig/lapd-shared.pc", "share/lapd/lapd.py", "share/lapd/lapd_malloc.c",
@@ -281,10 +282,6 @@ def by_packages(dist, to):
 
 # Who made the packages of this test: at a host that mail can be sent to, as lintian wants it.
 MAINTAINER = "A Packager <packager@debian.org>"
-# What lintian may tell: sections that compilers and linkers leave; what Debian's own flags would add to the simulator; and that
-# no file lists the symbols, while nothing was released yet.
-TOLD = {"binary-has-unneeded-section", "static-library-has-unneeded-sections", "hardening-no-bindnow", "hardening-no-fortify-functions",
-        "no-symbols-control-file"}
 # What the folder has of each package, for dpkg.
 PACKAGES = {"liblapd1": "liblapd.so.1", "liblapd-dev": "lapd.h", "lapdsim": "bin/lapdsim"}
 
@@ -335,8 +332,7 @@ def by_lintian(found):
         skip("what lintian says", "it is not installed (Debian: apt-get install lintian)", "CMAKE")
         return
     said = run(["lintian", "--tag-display-limit", "0", "-I", *found], timeout=LONG)
-    rows = re.findall(r"^[EWI]: \S+: (\S+).*$", said.stdout.decode(), re.M)
-    check("what lintian says", rows and set(rows) <= TOLD, said.stdout.decode()[-1200:])
+    check("lintian says nothing", said.returncode == 0 and not said.stdout.strip(), said.stdout.decode()[-1200:])
 
 
 # ---- The page ---------------------------------------------------------------------------------------------------------------
@@ -357,7 +353,7 @@ def embedding(dist):
         shutil.copytree(dist.files, at, dirs_exist_ok=True)
         said = run(["sh", "-ec", f'cd "$0" && {command}', at], timeout=LONG)
         check(f"EMBEDDING.md: {command}", said.stdout == FIRST, (said.stdout + said.stderr).decode()[-600:])
-    for name in sorted(os.listdir(f"{dist.files}/examples")):
+    for name in sorted(it for it in os.listdir(f"{dist.files}/examples") if "." in it):
         named = re.findall(r"(?<=[ /])(\.\./\S+|\w+\.[cS])(?= |$)", "".join(re.findall(r"^ \* +(cc .*)$", read(f"{dist.files}/examples/{name}").decode(), re.M)))
         missing = [it for it in named if not os.path.exists(f"{dist.files}/examples/{it}")]
         check(f"what {name} is compiled with is there", not missing, missing)

@@ -16,13 +16,13 @@ from targets import FIRST, TARGETS
 # lapdsim.c and lapd.c are long, and a machine may have much to do.
 LONG = 900
 C99 = ["-std=c99", *STRICT, "-pedantic"]
-# What README.md begins with.
-COMMANDS = ("cc -O2 -o lapdsim dist/lapdsim.c && ./lapdsim run < crates/lapdsim/stdin",
-            "cc -O2 -I dist -o first examples/c/first.c dist/lapd.S dist/lapd_malloc.c && ./first")
-# And its third: tests.
+# What README.md begins with; tests/examples runs those with a dollar, too.
+COMMANDS = ("$ cc -O2 -I dist -o first examples/c/first.c dist/lapd.S dist/lapd_malloc.c && ./first",
+            "cc -o lapdsim dist/lapdsim.c && ./lapdsim run < crates/lapdsim/stdin")
+# And then: tests.
 TESTS = "cmake -S dist -B built && cmake --build built && (cd built && ctest)"
 # Programs of examples/c with their files; first.c and wire.c are played, as they ask for no line.
-EXAMPLES = {"first": (), "wire": ("trace",), "terminal": ("linecard", "trace"), "clock": ("trace",), "exchange": ("linecard", "pcap", "trace"),
+EXAMPLES = {"first": (), "loop": (), "wire": ("trace",), "terminal": ("linecard", "trace"), "clock": ("trace",), "exchange": ("linecard", "pcap", "trace"),
             "hardware": ("linecard", "pcap", "trace"), "misdn": ("dchannel", "linecard", "pcap", "trace"),
             "dahdi": ("dchannel", "linecard", "pcap", "trace"), "standby": ()}
 # Parts of examples/c that are no programs.
@@ -73,9 +73,9 @@ def clean_folder(dist):
     shutil.copytree(dist.files, f"{clone}/dist")
     check("no rt is in PATH", shutil.which("rt", path=path) is None, path)
     before = seconds()
-    for command, wanted in zip(COMMANDS, (read(f"{ROOT}/crates/lapdsim/stdout"), FIRST)):
+    for command, wanted in zip(COMMANDS, (FIRST, read(f"{ROOT}/crates/lapdsim/stdout"))):
         check(f"README.md has {command}", f"\n    {command}".encode() in read(f"{ROOT}/README.md"), "it doesn't")
-        said = shell(command, clone, PATH=path)
+        said = shell(re.sub(r"^\$ ", "", command), clone, PATH=path)
         check(command, (said.returncode, said.stdout) == (0, wanted), (said.stdout + said.stderr).decode()[-600:])
     took = seconds() - before
     print(f"c: both commands of README.md took {took:.1f} s of processor time")
@@ -91,7 +91,7 @@ def clean_folder(dist):
 
 
 def own_tests(clone, path):
-    """README.md's third command."""
+    """README.md's command of tests."""
     check(f"README.md has {TESTS}", f"\n    {TESTS}".encode() in read(f"{ROOT}/README.md"), "it doesn't")
     if not shutil.which("cmake"):
         skip(TESTS, "there is no CMake (Debian: apt-get install cmake)", "CMAKE")

@@ -110,7 +110,7 @@ static void of_no_card(void) {
 }
 
 static void of_other_kind(lapd_card *frames, lapd_card *octets) {
-    lapd_head head = {1, {2, 3, 4, 5}};
+    lapd_head head = {1, {2, 3, 4, 5}, {6}};
     size_t steps = 3;
     lay_paint();
     refused(lapd_octet(frames, 9, 0x7E, &report), LAPD_WRONG_CARD, "an octet at a card for frames");
@@ -210,6 +210,7 @@ static bool is_same(const lapd_report *one, const lapd_report *two) {
            && one->lost == two->lost && one->begun == two->begun && one->delivered == two->delivered
            && one->length == two->length && one->reopened == two->reopened
            && one->given_up == two->given_up && one->given_up_16 == two->given_up_16
+           && one->given_up_tei == two->given_up_tei
            && memcmp(one->notes, two->notes, one->note_count * sizeof *one->notes) == 0
            && memcmp(one->orders, two->orders, one->order_count * sizeof *one->orders) == 0
            && memcmp(one->contents, two->contents, one->length) == 0;
@@ -227,7 +228,7 @@ static unsigned hear_octet(pair *both, uint32_t line, uint8_t octet, unsigned te
 
 /* How the latest frame of the line began: what came in its octets. */
 static void is_latest(pair *both, uint32_t line) {
-    lapd_head head = {1, {2, 3, 4, 5}};
+    lapd_head head = {1, {2, 3, 4, 5}, {6}};
     wants(lapd_heard(&both->octets, line, &head) == LAPD_OK && memcmp(&head, &both->heard[line], sizeof head) == 0,
           "another frame was heard last");
 }
@@ -368,6 +369,7 @@ static void happens(pair *both) {
     static lapd_report one, two;
     uint32_t line = chance(LINES), what = chance(20), status = LAPD_OK, other = LAPD_OK;
     memset(&two, 0, sizeof two);
+    two.given_up_tei = 255; /* octets that tell nothing give nothing up */
     if (what < 9) {
         size_t count = any_frame(frame);
         status = lapd_frame(&both->frames, line, frame, count, &one);

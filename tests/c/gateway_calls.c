@@ -12,7 +12,7 @@
 
 static const lapd_config config = {.lines = 2, .terminals = 2, .k = 1, .k16 = 3, .queue = 8, .unit_queue = 4,
                                    .control = 4, .slots = 16, .n201 = 260, .n200 = 3, .side = LAPD_NETWORK};
-static const lapd_lengths lengths = {1000, 10000, 1000, 2000}, bad_lengths = {1000, 10000, 3600001, 2000};
+static const lapd_lengths lengths = {1000, 10000, 1000, 2000, {0}}, bad_lengths = {1000, 10000, 3600001, 2000, {0}};
 static const uint8_t contents[] = {1, 2, 3};
 /* of TEI 64, and of TEI 65 */
 static const uint8_t sabme[] = {0x00, 0x81, 0x7F}, ua[] = {0x00, 0x81, 0x73}, poll[] = {0x02, 0x81, 0x01, 0x01};

@@ -127,7 +127,7 @@ static void transmit(sent_frame *on_line, uint64_t free_at, const uint8_t *octet
     seen.spoilt += on_line->is_spoilt;
 }
 
-/* libpri sends a frame, behind those that the line still has. */
+/* libpri sends a frame, after those that the line still has. */
 static int terminal_writes(struct pri *pri, void *octets, int length) {
     access_line *at = &lines[pri_fd(pri)];
     if (at->is_down)
@@ -379,7 +379,7 @@ int main(int words, char **word) {
     }
     for (unsigned place = 0; place < LAPD_COUNTERS; place++)
         printf("gateway_day: %s %llu\n", lapd_counter_text(place), (unsigned long long)sum(place));
-    printf("gateway_day: %llu frames, %llu with more behind them, %llu spoilt, %llu calls, %llu answered, %llu cleared, "
+    printf("gateway_day: %llu frames, %llu with more after them, %llu spoilt, %llu calls, %llu answered, %llu cleared, "
            "%llu refused, %llu downs\n", (unsigned long long)seen.frames, (unsigned long long)seen.followed,
            (unsigned long long)seen.spoilt, (unsigned long long)seen.calls, (unsigned long long)seen.answered,
            (unsigned long long)seen.cleared, (unsigned long long)seen.refused, (unsigned long long)seen.downs);

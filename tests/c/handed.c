@@ -2,7 +2,7 @@
  * handed.c: what lapd.c's own parts decide of a call is what its machine decides. For tests alone; it has lapd.c in it, so
  * that it can ask the machine itself.
  *
- * - Configurations: fault_of finds the field that the machine's start finds, at each edge and at random, and lapd_image_octets is
+ * - Configurations: fault_of finds the field, or the reserved place, that the machine's start finds, at each edge and at random, and lapd_image_octets is
  *   what the machine answers.
  * - Octets: a frame or contents of more octets than a call hands over are answered as their first ones are.
  * - Stack: none of that, nor the start of a large card of octets, takes half of the stack in a machine's memory, which is

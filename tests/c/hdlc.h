@@ -30,7 +30,7 @@ void hdlc_begin(hdlc_sender *sender);
 /* Whether eight bits or more are left, or some bit of a frame is. */
 bool hdlc_busy(const hdlc_sender *sender);
 
-/* Adds a frame with its check and a closing flag behind what is left. */
+/* Adds a frame with its check and a closing flag after what is left. */
 void hdlc_load(hdlc_sender *sender, const uint8_t *frame, size_t length);
 
 /* The next eight bits; a flag is begun where fewer are left. */

@@ -41,7 +41,7 @@ typedef struct {
 
 static lapd_config config = {.lines = LINES, .terminals = 3, .k = 2, .k16 = 1, .queue = 2, .unit_queue = 2, .control = 4, .slots = 14,
                              .n201 = 16, .n200 = 2};
-static const lapd_lengths lengths = {100, 1000, 150, 250};
+static const lapd_lengths lengths = {100, 1000, 150, 250, {0}};
 static side ends[ENDS];
 static hdlc_sender senders[LINES];
 static uint64_t now, seed;
@@ -103,7 +103,8 @@ static void same_reports(uint32_t status, uint32_t other) {
         return;
     wants(one->line == two->line && one->note_count == two->note_count && one->order_count == two->order_count && one->cause == two->cause
               && one->lost == two->lost && one->begun == two->begun && one->more == two->more && one->delivered == two->delivered
-              && one->length == two->length && one->given_up == two->given_up && one->given_up_16 == two->given_up_16, "another report");
+              && one->length == two->length && one->given_up == two->given_up && one->given_up_16 == two->given_up_16
+              && one->given_up_tei == two->given_up_tei, "another report");
     wants(one->reopened == two->reopened && (!one->reopened || (one->reopened_service == two->reopened_service
               && one->reopened_tei == two->reopened_tei)), "another link has room");
     wants(memcmp(one->notes, two->notes, one->note_count * sizeof *one->notes) == 0
@@ -361,7 +362,7 @@ static void restore(side *at, const image *from) {
     wants(is_timed || lapd_clock_restore(&at->clock, from->clock, from->of_clock) == LAPD_OK, "no restore of the clock");
     may_take = false;
     for (uint32_t line = 0; for_octets && line < LINES; line++) {
-        lapd_head head = {1, {0}};
+        lapd_head head = {1, {0}, {0}};
         wants(lapd_begun(&at->card, line, &head) == LAPD_OK && head.length == 0, "a frame has begun");
         head.length = 1;
         wants(lapd_heard(&at->card, line, &head) == LAPD_OK && head.length == 0, "a frame was heard");

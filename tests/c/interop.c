@@ -18,6 +18,7 @@
 #include "hdlc.h"
 #include "lapd.h"
 #include "libpri_terminal.h"
+#include "tapped.h"
 
 /* ---- Frames that wait to go from one side to the other ------------------------------------------------------------ */
 
@@ -174,8 +175,10 @@ static void turn_card(void) {
             disown_heard();
         did(lapd_pull(&card, 0, &octet, &report), "a pull");
         tell(&report);
-        if (hdlc_hear(&listener, octet))
+        if (hdlc_hear(&listener, octet)) {
+            tapped(monotonic(), true, listener.frame, listener.length);
             put_frame(&to_terminal, listener.frame, listener.length);
+        }
     }
     for (lapd_due due; lapd_clock_due(&timers, now, &due) == LAPD_OK;) {
         did(lapd_expire(&card, due.line, &due.timer, &report), "an expiry");
@@ -191,6 +194,7 @@ static q931_call *call;
 /* libpri hands over and takes frames with two octets of room for a check, which it does not look at. */
 static int give(struct pri *pri, void *octets, int length) {
     (void)pri;
+    tapped(monotonic(), false, octets, (size_t)length - 2);
     put_frame(&from_terminal, octets, (size_t)length - 2);
     return length;
 }
@@ -277,6 +281,7 @@ static void restart(void) {
 int main(void) {
     static lapd_report report;
     setvbuf(stdout, NULL, _IOLBF, 0);
+    tapped_begin("terminal", 1);
     if (lapd_card_start(&card, &config) != LAPD_OK || lapd_clock_start(&timers, &config) != LAPD_OK)
         return 1;
     now = monotonic();

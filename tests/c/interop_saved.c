@@ -193,7 +193,7 @@ static void note_came(line *at, const saved_item *told) {
     case LAPD_ESTABLISH_INDICATION: at->up++; break;
     case LAPD_DATA_INDICATION: message_came(at, told->octets, told->length); break;
     default: {
-        const lapd_note note = {told->note, LAPD_CALL, told->tei, told->error};
+        const lapd_note note = {told->note, LAPD_CALL, told->tei, told->error, {0}};
         want(false, lapd_note_text(&note));
     }
     }

@@ -178,7 +178,7 @@ static void note_came(const standby_message *message) {
         if (message->error == 'A')
             break; /* fall through */
     default: {
-        const lapd_note note = {message->what, message->service, message->tei, message->error};
+        const lapd_note note = {message->what, message->service, message->tei, message->error, {0}};
         printf("  %s %u %c\n", lapd_note_text(&note), note.tei, note.error != 0 ? note.error : ' ');
         fail("a note of another kind");
     }

@@ -25,6 +25,7 @@
 
 #include "lapd.h"
 #include "libpri_terminal.h"
+#include "tapped.h"
 
 enum { MOST_TERMINALS = 3, MOST_TEIS = 2, MOST_FRAMES = 64, CHECK_OCTETS = 2, TEIS = 127, STEP = 10 };
 /* in milliseconds: how long frames are lost, how long none is then, and the time between two things that layer 3 does */
@@ -131,6 +132,7 @@ static int network_writes(struct pri *pri, void *octets, int length) {
         memset(assigned, 0, sizeof assigned);
     else if (is_message(of, octets_of, REMOVED))
         assigned[tei_of(of)] = false;
+    tapped(now, true, of, octets_of);
     put(from_network, &from_count, of, octets_of);
     return length;
 }
@@ -258,6 +260,7 @@ static void give(terminal *own) {
             seen.verified++;
         }
         seen.answered += is_message(out, length, ANSWERED);
+        tapped(now, false, out, length);
         put(to_network, &to_count, out, length);
     }
 }
@@ -290,6 +293,7 @@ static void start(void) {
                           .slots = 40, .n201 = 260, .n200 = 3, .side = LAPD_TERMINAL};
     memset(assigned, 0, sizeof assigned);
     to_count = from_count = 0;
+    tapped_begin("terminals", run);
     network = libpri_access((int)run, network_reads, network_writes);
     want(network != NULL, "libpri does not start");
     for (unsigned i = 0; i < count; i++) {

@@ -30,6 +30,7 @@
 
 #include "lapd.h"
 #include "libpri_terminal.h"
+#include "tapped.h"
 
 enum { MOST_OCTETS = 2048, CHECK_OCTETS = 2, MESSAGES = 400, LOST_OF = 12, T200_MS = 200, MOST_ESTABLISHED = 6 };
 
@@ -61,6 +62,7 @@ static int take(struct pri *pri, void *octets, int room) {
 
 static int give(struct pri *pri, void *octets, int length) {
     (void)pri;
+    tapped(monotonic(), true, octets, (size_t)length - CHECK_OCTETS);
     return is_lost(&from_network, &lost_from_network) ? length : (int)send(ends[0], octets, (size_t)length, 0);
 }
 
@@ -150,6 +152,7 @@ static void turn_card(void) {
     enquire();
     while (lapd_next_frame(&card, 0, frame, LAPD_MOST_FRAME, &length, &report) == LAPD_OK) {
         tell(&report);
+        tapped(monotonic(), false, frame, length);
         if (!is_lost(&from_user, &lost_from_user) && send(ends[1], frame, length + CHECK_OCTETS, 0) < 0)
             fail("a frame does not go");
     }
@@ -221,6 +224,7 @@ static void release_until_down(void) {
 int main(int words, char **argv) {
     chance = words > 1 ? strtoull(argv[1], NULL, 10) : 1;
     setvbuf(stdout, NULL, _IOLBF, 0);
+    tapped_begin("trunk", (unsigned)chance);
     start();
     step("the network establishes the link", &indicated, 1, 10000);
     step("the network has it up", &network_up, 1, 10000);

@@ -27,7 +27,7 @@ static void wants(bool is, const char *what) {
 /* The numbers of call control of the TEI at a card, in their order. */
 static void has_counted(lapd_card *card, unsigned again, unsigned expired, unsigned sent, unsigned received, unsigned established,
                         const char *what) {
-    struct lapd_link_counters is = {9, 9, 9, 9, 9};
+    struct lapd_link_counters is = {9, 9, 9, 9, 9, {9}};
     wants(lapd_link_counters(card, 0, LAPD_CALL, TEI, &is) == LAPD_OK && is.sent_again == again && is.t200_expired == expired
               && is.rejects_sent == sent && is.rejects_received == received && is.established == established, what);
 }
@@ -115,7 +115,7 @@ static void is_rejected(void) {
 
 /* A release leaves the numbers, and the next establishment is counted. The link of the other service counts by itself. */
 static void is_established_again(void) {
-    struct lapd_link_counters packet = {9, 9, 9, 9, 9};
+    struct lapd_link_counters packet = {9, 9, 9, 9, 9, {9}};
     wants(lapd_release(&near, 0, LAPD_CALL, TEI, &report) == LAPD_OK, "no release");
     settle();
     has_counted(&near, 4, 1, 0, 1, 1, "a release changes what was counted");
@@ -129,7 +129,7 @@ static void is_established_again(void) {
 
 /* The link of a TEI that comes anew counts anew, and so does one that is given up. */
 static void begins_anew(void) {
-    struct lapd_link_counters none = {9, 9, 9, 9, 9};
+    struct lapd_link_counters none = {9, 9, 9, 9, 9, {9}};
     uint8_t place = 0;
     wants(lapd_remove(&near, 0, TEI, &report) == LAPD_OK, "the TEI stays");
     wants(lapd_link_counters(&near, 0, LAPD_CALL, TEI, &none) == LAPD_REFUSED_NO_LINK && none.established == 9, "counters of a TEI that left");

@@ -21,11 +21,13 @@ if (taken.map(([name]) => name).join() !== "card,config,report" || taken.some(([
     console.error(`the example takes ${taken}, the structs have ${sizes}`);
     process.exit(1);
 }
-// The example writes each field of a configuration.
+// The example writes each field of a configuration, but for what is reserved.
 const [, written, values] = declarations.match(/Number\(config\), (\d+)\)\.set\(\[([\d, ]+)\]\)/) ?? [];
 const basic = (values ?? "").split(", ").map(Number);
-if (Number(written) * 2 !== Number(sizes[1]) || basic.length !== Number(written)) {
-    console.error(`the example writes ${basic.length} fields in ${written} places, and a configuration has ${sizes[1]} octets`);
+const [, rows] = declarations.match(/^\/\/ lapd_config, \d+ octets:\n((?:\/\/  .*\n)+)/m) ?? [];
+const own = [...(rows ?? "").matchAll(/ uint16_t (\w+)$/gm)].map((found) => found[1]);
+if (Number(written) !== own.length || own.length < 14 || basic.length !== own.length) {
+    console.error(`the example writes ${basic.length} fields in ${written} places, and a configuration has ${own}`);
     process.exit(1);
 }
 const lapd = new WebAssembly.Instance(module).exports;
@@ -49,7 +51,7 @@ want(lapd.lapd_card_start(card, config), 13);
 want(lapd.lapd_request(card, 0, 5, 0, 64, place, 0n, report));
 for (const octet of [0x7e, 0x00, 0x81, 0xef, 0x50, 0xb1, 0xfd, 0xfc]) {
     want(lapd.lapd_octet(card, 0, octet, report));
-    for (let at = 8; at < 8 + 4 * memory(report, 1)[0]; at += 4) {
+    for (let at = 8; at < 8 + 8 * memory(report, 1)[0]; at += 8) {
         const [note, , tei] = memory(report + BigInt(at), 3);
         console.log(`0 ${note === 1 ? "establish-indication" : `note ${note}`} ${tei}`);
     }

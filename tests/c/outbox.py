@@ -14,6 +14,12 @@ def outbox_of_python(lapd):
     chance, link, came, counts = random.Random(4), (0, lapd.Service.CALL, 5), set(), []
     messages = [it.to_bytes(2, "big") for it in range(2000)]
     far_end = dataclasses.replace(lapd.BASIC_ACCESS, side=lapd.Side.USER)
+    wrong_teis = []
+
+    def check_tei(report):
+        if report.given_up_tei != (5 if report.given_up else None):
+            wrong_teis.append(report)
+
     with lapd.TimedFrameCard(lapd.BASIC_ACCESS) as near, lapd.TimedFrameCard(far_end) as far:
         box = names["Outbox"](near, *link)
         box.waiting.extend(messages)
@@ -21,7 +27,8 @@ def outbox_of_python(lapd):
         def reads(card, report):
             if card is near:
                 counts.append(report.given_up)
-                box.gave_up(report.given_up)
+                check_tei(report)
+                box.gave_up(report)
                 box.send_waiting()
             elif report.contents is not None:
                 came.add(report.contents)
@@ -52,5 +59,6 @@ def outbox_of_python(lapd):
             check("the outbox of lapd.py: a message that is too long is told", False, "nothing")
         except lapd.Refused as why:
             check("the outbox of lapd.py: a message that is too long is told", why.status == lapd.Status.REFUSED_TOO_LONG, why.status)
+    check("the outbox of lapd.py: the TEI of what is given up", not wrong_teis, wrong_teis[:2])
     check("the outbox of lapd.py: nothing is missing", len(came) == len(messages), len(came))
     check("the outbox of lapd.py: much is given up", sum(counts) > 100 and max(counts) > 1, sum(counts))

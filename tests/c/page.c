@@ -1,7 +1,7 @@
 /*
  * page.c: a loop of docs/EMBEDDING.md as a program. tests/c/run puts what the page shows into the file PAGE. Standard
  * input is the line. At a card of octets it is an octet every ten milliseconds: each note and each drop is printed at once,
- * and the octets that go out are printed at the end. At a card of frames (FRAMES) it is the octets of a frame behind their
+ * and the octets that go out are printed at the end. At a card of frames (FRAMES) it is the octets of a frame after their
  * number, or 0, ten milliseconds in which none comes: each frame that goes out is printed at once, too.
  */
 #include <stdio.h>
@@ -94,17 +94,12 @@ static uint32_t time_is(uint64_t moment) {   /* all that is due expires */
     return status == LAPD_NO_TIMER ? LAPD_OK : status;
 }
 
-/* What the page says of its two configurations: that the other one starts, too, and how many octets each takes; and of four lines
- * of basic access, as README.md has them. */
+/* What the page says of its two configurations: that the other one starts, too, and how many octets each takes. */
 static bool is_as_said(void) {
     lapd_card other = LAPD_CARD_NONE;
-    lapd_config four = basic;
-    four.lines = 4;
-    four.slots = 4 * basic.slots;
     return lapd_card_start_frames_timed(&other, &primary, &lengths) == LAPD_OK && lapd_card_free(&other) == LAPD_OK
            && lapd_card_octets_timed(&basic) == 42064 && lapd_card_octets_frames_timed(&basic) == 41232
-           && lapd_card_octets_timed(&primary) == 8464 && lapd_card_octets_frames_timed(&primary) == 7632
-           && lapd_card_octets_timed(&four) == 166448 && lapd_card_octets_frames_timed(&four) == 163168;
+           && lapd_card_octets_timed(&primary) == 8464 && lapd_card_octets_frames_timed(&primary) == 7632;
 }
 
 static uint16_t random_number(void) {

@@ -10,7 +10,7 @@ enum { AN_HOUR = 3600000 };
 uint32_t start_patiently(lapd_card *card, const lapd_config *config, const lapd_lengths *lengths);
 
 uint32_t start_patiently(lapd_card *card, const lapd_config *config, const lapd_lengths *lengths) {
-    static const lapd_lengths patient = {T200_MS, AN_HOUR, AN_HOUR, AN_HOUR};
+    static const lapd_lengths patient = {T200_MS, AN_HOUR, AN_HOUR, AN_HOUR, {0}};
     (void)lengths;
     return lapd_card_start_frames_timed(card, config, &patient);
 }

@@ -52,7 +52,6 @@ private:
     fault wait(uint32_t ms);
     void fall_due(uint64_t end);
     void tell(uint32_t line);
-    void tell(uint32_t line, unsigned tei);
     void receive(uint32_t line, uint8_t octet);
     void send(uint32_t line, lapd::octets frame);
     void pull(uint32_t line, uint32_t count);
@@ -85,7 +84,7 @@ fault station::start(const command &line) {
     const lapd_config &config = line.config;
     auto octets = std::make_unique<lapd::card>();
     auto frames = std::make_unique<lapd::frame_card>();
-    const lapd_lengths lengths = {1000, 10000, 1000, 2000};
+    const lapd_lengths lengths = {1000, 10000, 1000, 2000, {}};
     status is = is_timed_ ? (line.for_frames ? frames->start(config, lengths) : octets->start(config, lengths))
                           : (line.for_frames ? frames->start(config) : octets->start(config));
     if (is == status::ok && !is_timed_)
@@ -107,13 +106,8 @@ fault station::start(const command &line) {
     return NO_FAULT;
 }
 
-// The first note has the TEI: what an event gives up is noted, unless layer 3 asked for it.
+// Writes what an event told, and hands its orders to the clock.
 void station::tell(uint32_t line) {
-    tell(line, report_.notes().empty() ? unsigned{LAPD_GROUP_TEI} : report_.notes()[0].tei);
-}
-
-// Writes what an event of a TEI told, and hands its orders to the clock.
-void station::tell(uint32_t line, unsigned tei) {
     for (lapd::note note : report_.notes()) {
         std::printf("%u %s %u", line, note.text(), note.tei);
         if (note.kind == lapd::note_kind::data_indication || note.kind == lapd::note_kind::unit_indication) {
@@ -130,9 +124,9 @@ void station::tell(uint32_t line, unsigned tei) {
     if (report_.lost() != 0)
         std::printf("%u lost %u\n", line, report_.lost());
     if (losses_ && report_.given_up() != 0)
-        std::printf("%u given-up %u %u\n", line, tei, report_.given_up());
+        std::printf("%u given-up %u %u\n", line, report_.given_up_tei(), report_.given_up());
     if (losses_ && report_.given_up_16() != 0)
-        std::printf("%u given-up-16 %u %u\n", line, tei, report_.given_up_16());
+        std::printf("%u given-up-16 %u %u\n", line, report_.given_up_tei(), report_.given_up_16());
     if (is_timed_)
         want_ok(report_.orders().empty() && report_.line() == line ? status::ok : status::wrong_order, "no orders");
     else if (report_.orders().size() == 1)
@@ -276,7 +270,7 @@ void station::ask(uint32_t line, const command &of) {
         return;
     }
     want_ok(is, "request");
-    tell(line, of.numbers[1]);
+    tell(line);
 }
 
 void station::bring_down(uint32_t line) {
@@ -347,7 +341,7 @@ fault station::obey(const command &line) {
         return wait(line.numbers[0]);
     if (line.verb == TIMERS) {
         const uint32_t *numbers = line.numbers;
-        const lapd_lengths lengths = {numbers[0], numbers[1], numbers[2], numbers[3]};
+        const lapd_lengths lengths = {numbers[0], numbers[1], numbers[2], numbers[3], {}};
         const status is = is_timed_ ? any()->set_lengths(lengths) : clock_.set_lengths(numbers[0], numbers[1], numbers[2], numbers[3]);
         return is == status::ok ? NO_FAULT : BAD_NUMBER;
     }

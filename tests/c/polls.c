@@ -2,18 +2,27 @@
  * polls.c: terminals poll (RR command, P=1) at a card of frames, and each is answered. For tests alone, which count the
  * instructions and the time.
  *
- *     polls TIMES [clock|own] [came|gone|due] [64]
+ *     polls TIMES [clock|own] [came|gone|due|group|short] [64] [after BEFORE]
  *
  * With `clock` all orders for timers are carried out on one, and it is asked each time what is due, which is none; with `own`
  * the card keeps its own timers, and lapd_fall_due is asked each time, at a moment that goes on. In place of polls, with `came`
  * an I-frame with 64 octets of information comes, and its RR goes; with `gone` layer 3 asks for 64 octets, the I-frame goes,
- * and its RR comes. With `due` T203 of each link in turn falls due, and the terminal is asked and answers. Without 64 a
- * terminal of one line does so, else one of each of 64 lines in turn; for `due` each line has eight terminals with two links.
- * Prints how often all was right; status 1 where it was not each time.
+ * and its RR comes. With `due` T203 of each link in turn falls due, and the terminal is asked and answers. With `group` a
+ * message to TEI 127 comes that the card does not serve, and with `short` a frame of one octet. Without 64 a terminal of one
+ * line does so, else one of each of 64 lines in turn; for the last three each line has eight terminals with two links.
+ * Prints how often all was right; status 1 where it was not each time. With `after` it has done so BEFORE times already, a
+ * multiple of 128, and compiled with -DCOUNTED it has callgrind begin to count then (--instr-atstart=no).
  */
 #include <stdio.h>
 #include <stdlib.h>
 #include <string.h>
+
+#ifdef COUNTED
+#include <valgrind/callgrind.h>
+#else
+#define CALLGRIND_START_INSTRUMENTATION ((void)0)
+#define CALLGRIND_STOP_INSTRUMENTATION ((void)0)
+#endif
 
 #include "lapd.h"
 
@@ -21,7 +30,7 @@ enum { HEAD = 4, INFORMATION = 64, FIRST_TEI = 64, T203 = 10240 };
 /* Who keeps the timers. It is a constant in each of the works, so that none pays for another. */
 typedef enum { NO_TIMERS, CLOCK, OWN } keeper;
 
-static const lapd_lengths lengths = {1000, T203, 1000, 2000};
+static const lapd_lengths lengths = {1000, T203, 1000, 2000, {0}};
 static lapd_card card = LAPD_CARD_NONE;
 static lapd_clock timers = LAPD_CLOCK_NONE;
 static lapd_report report;
@@ -29,6 +38,7 @@ static uint8_t frame[LAPD_MOST_FRAME];
 static size_t length;
 static uint64_t now; /* in milliseconds; at a clock it stands, but with `due` */
 static uint32_t lines = 1, terminals = 1;
+static unsigned long before; /* how many works are done before those that count */
 
 /* ---- What each event costs besides, by who keeps the timers ---------------------------------------------------------- */
 
@@ -94,6 +104,19 @@ static inline bool is_due(keeper by, uint32_t line, unsigned long at) {
     return expires(by, line) && gives(by, line, asks, sizeof asks) && hears(by, line, asks, sizeof asks);
 }
 
+/* A check response comes that nobody asked for. */
+static inline bool is_unserved(keeper by, uint32_t line, unsigned long at) {
+    static const uint8_t response[] = {0xFC, 0xFF, 0x03, 0x0F, 0x12, 0x34, 0x05, 0x83};
+    (void)at;
+    return hears(by, line, response, sizeof response) && report.cause == LAPD_UNSERVED;
+}
+
+static inline bool is_short(keeper by, uint32_t line, unsigned long at) {
+    static const uint8_t octet = 0;
+    (void)at;
+    return hears(by, line, &octet, sizeof octet) && report.cause == LAPD_SHORT;
+}
+
 /* How often a work was right: on one line, or on all in turn. */
 #define WORK(name, by, is_right)                                         \
     static unsigned long name(unsigned long times) {                     \
@@ -117,6 +140,10 @@ WORK(goes_with_clock, CLOCK, has_gone)
 WORK(goes_with_own, OWN, has_gone)
 WORK(expire_by_clock, CLOCK, is_due)
 WORK(fall_due, OWN, is_due)
+WORK(messages, NO_TIMERS, is_unserved)
+WORK(messages_with_own, OWN, is_unserved)
+WORK(octets, NO_TIMERS, is_short)
+WORK(octets_with_own, OWN, is_short)
 
 static const struct {
     const char *name;
@@ -125,7 +152,9 @@ static const struct {
 } works[] = {{"polls", NO_TIMERS, polls}, {"polls", CLOCK, polls_with_clock}, {"polls", OWN, polls_with_own},
              {"came", NO_TIMERS, comes}, {"came", CLOCK, comes_with_clock}, {"came", OWN, comes_with_own},
              {"gone", NO_TIMERS, goes}, {"gone", CLOCK, goes_with_clock}, {"gone", OWN, goes_with_own},
-             {"due", CLOCK, expire_by_clock}, {"due", OWN, fall_due}};
+             {"due", CLOCK, expire_by_clock}, {"due", OWN, fall_due},
+             {"group", NO_TIMERS, messages}, {"group", OWN, messages_with_own},
+             {"short", NO_TIMERS, octets}, {"short", OWN, octets_with_own}};
 enum { WORKS = sizeof works / sizeof *works };
 
 /* ---- The card ------------------------------------------------------------------------------------------------------- */
@@ -159,6 +188,8 @@ static size_t work_of(int words, char **word) {
             by = word[at][0] == 'c' ? CLOCK : OWN;
         else if (strcmp(word[at], "64") == 0)
             lines = LAPD_MOST_LINES;
+        else if (strcmp(word[at], "after") == 0 && at + 1 < words)
+            before = strtoul(word[++at], NULL, 10);
         else
             name = word[at];
     size_t work = 0;
@@ -170,14 +201,18 @@ static size_t work_of(int words, char **word) {
 int main(int words, char **word) {
     unsigned long times = words > 1 ? strtoul(word[1], NULL, 10) : 0;
     const size_t work = work_of(words, word);
-    if (times == 0 || work == WORKS) {
-        fprintf(stderr, "usage: polls TIMES [clock|own] [came|gone|due] [64]; due with one of these\n");
+    if (times == 0 || work == WORKS || before % 128 != 0) {
+        fprintf(stderr, "usage: polls TIMES [clock|own] [came|gone|due|group|short] [64] [after BEFORE]; due with one of the first\n");
         return 2;
     }
-    terminals = strcmp(works[work].name, "due") == 0 ? 8 : 1;
+    const char *name = works[work].name;
+    terminals = strcmp(name, "due") == 0 || strcmp(name, "group") == 0 || strcmp(name, "short") == 0 ? 8 : 1;
     if (!start(works[work].by))
         return 1;
+    const bool is_warm = works[work].count(before) == before;
+    CALLGRIND_START_INSTRUMENTATION;
     unsigned long right = works[work].count(times);
+    CALLGRIND_STOP_INSTRUMENTATION;
     printf("%lu\n", right);
-    return lapd_card_free(&card) != LAPD_OK || (works[work].by != OWN && lapd_clock_free(&timers) != LAPD_OK) || right != times;
+    return !is_warm || lapd_card_free(&card) != LAPD_OK || (works[work].by != OWN && lapd_clock_free(&timers) != LAPD_OK) || right != times;
 }

@@ -74,12 +74,12 @@ static void is_accounted(uint32_t line) {
     const int numbers[] = {report.given_up, report.given_up_16};
     int gone[] = {0, 0};
     for (unsigned i = 0; i < 4; i++) {
-        struct lapd_room room = {0, QUEUE, 0};
+        struct lapd_room room = {0, QUEUE, 0, {0}};
         uint8_t service = i % 2 == 0 ? LAPD_CALL : LAPD_PACKET, tei = i < 2 ? 64 : 126;
         (void)!lapd_room(&card, line, service, tei, &room);
         unsigned place = place_of(service, tei);
         int now = QUEUE - (int)room.queue, left = kept[line][place].count - now;
-        if (numbers[i % 2] != 0)
+        if (numbers[i % 2] != 0 && tei == report.given_up_tei)
             gone[i % 2] += left;
         else
             wants(left <= 0 || ((room.va - kept[line][place].va) & 127) == left, "contents are gone silently");
@@ -88,6 +88,7 @@ static void is_accounted(uint32_t line) {
     }
     wants(numbers[0] == gone[0] && numbers[1] == gone[1], "so many are not given up");
     wants(numbers[0] + numbers[1] == 0 || lapd_tells(&report), "what is given up is nothing to tell");
+    wants(numbers[0] + numbers[1] != 0 || report.given_up_tei == 255, "a TEI that gives nothing up");
     given_up += (unsigned)(gone[0] + gone[1]);
 }
 
@@ -103,7 +104,7 @@ static void send(uint32_t line, uint8_t service, uint8_t tei) {
 
 /* A frame of the link: SABME, DISC, UA, or RR, mostly with an N(R) that acknowledges something. */
 static size_t frame_of(uint32_t line, uint8_t service, uint8_t tei, uint8_t *frame) {
-    struct lapd_room room = {0, 0, 0};
+    struct lapd_room room = {0, 0, 0, {0}};
     uint32_t what = chance(12);
     (void)!lapd_room(&card, line, service, tei, &room);
     frame[0] = (uint8_t)(4 * service + 2 * (what == 2));

@@ -1,5 +1,5 @@
 /*
- * resent.c: layer 3 sends again what is told as given up, as docs/EMBEDDING.md shows. The wire loses frames of each kind. Links of
+ * resent.c: layer 3 sends again what is told as given up, by examples/c/outbox.h. The wire loses frames of each kind. Links of
  * both services are released, deactivated and established anew. In the end nothing is missing. Only what was told as given up
  * comes twice, or what a link still kept as it began anew. For tests alone.
  */
@@ -7,11 +7,11 @@
 #include <stdlib.h>
 #include <string.h>
 
-#include "lapd.h"
+#include "outbox.h"
 
-enum { TEI = 5, LINKS = 2, MANY = 20000, MOST_WAITING = 100, MOST_IN_TRANSIT = 256, QUIET = 120000, STEP = 10 };
+enum { TEI = 5, LINKS = 2, MANY = 20000, MOST_WAITING = 20, MOST_IN_TRANSIT = 256, QUIET = 120000, STEP = 10 };
 
-static const lapd_lengths lengths = {200, 2000, 1000, 2000};
+static const lapd_lengths lengths = {200, 2000, 1000, 2000, {0}};
 static lapd_config config = {.lines = 1, .terminals = 1, .k = 7, .k16 = 7, .queue = 8, .unit_queue = 4, .control = 4, .slots = 40,
                              .n201 = 260, .n200 = 3};
 /* The card of the near end, and that of the far one. */
@@ -19,44 +19,6 @@ static lapd_card card = LAPD_CARD_NONE, far_card = LAPD_CARD_NONE;
 static lapd_report report;
 static uint64_t now;
 static uint32_t seed = 4; /* with which what a link kept comes twice, too */
-
-static void layer_3(const lapd_report *it);
-
-/* ---- What the page shows ---------------------------------------------------------------------------------------- */
-
-typedef struct {                         /* of a link */
-    struct { uint8_t octets[LAPD_MOST_OCTETS]; size_t length; } copies[256];
-    uint8_t next, waiting;               /* so many wait, from copies[next] on; those before it were granted */
-    bool is_sending;
-} outbox;
-
-static bool enters(outbox *own, const uint8_t *octets, size_t length) {   /* a new message */
-    if (own->waiting > 127 || length > LAPD_MOST_OCTETS)
-        return false;                    /* a link keeps, and gives up, 127 at most */
-    uint8_t place = (uint8_t)(own->next + own->waiting++);
-    memcpy(own->copies[place].octets, octets, length);
-    own->copies[place].length = length;
-    return true;
-}
-
-static void gave_up(outbox *own, uint8_t count) {   /* of each report: given_up, or given_up_16 */
-    own->next = (uint8_t)(own->next - count);
-    own->waiting = (uint8_t)(own->waiting + count);
-}
-
-static void send_waiting(outbox *own, uint8_t service, uint8_t tei) {
-    static lapd_report asked;
-    if (own->is_sending)                 /* layer_3 below calls it, too */
-        return;
-    own->is_sending = true;
-    while (own->waiting > 0 && lapd_data(&card, 0, service, tei, own->copies[own->next].octets,
-                                         own->copies[own->next].length, &asked) == LAPD_OK) {
-        own->next++;
-        own->waiting--;
-        layer_3(&asked);
-    }
-    own->is_sending = false;
-}
 
 /* ---- Layer 3 of the near end ------------------------------------------------------------------------------------ */
 
@@ -88,7 +50,7 @@ static uint32_t chance(uint32_t many) {
 static void may_double(link *it, uint8_t from, uint32_t many) {
     for (uint32_t i = 0; i < many; i++) {
         uint32_t number;
-        memcpy(&number, it->out.copies[(uint8_t)(from + i)].octets, sizeof number);
+        memcpy(&number, it->out.copies[(from + i) % OUTBOX_COPIES].octets, sizeof number);
         it->may_double[number] = true;
     }
 }
@@ -96,7 +58,7 @@ static void may_double(link *it, uint8_t from, uint32_t many) {
 /* The newest so many wait again, before those that wait already. */
 static void gives_up(link *it, uint8_t count) {
     wants(count <= config.queue && count <= it->entered - it->out.waiting, "more is given up than was granted");
-    gave_up(&it->out, count);
+    outbox_gave_up(&it->out, count);
     it->given_up += count;
     may_double(it, it->out.next, count);
 }
@@ -106,24 +68,25 @@ static void begins_anew(link *it) {
     struct lapd_room room;
     wants(lapd_room(&card, 0, it->service, TEI, &room) == LAPD_OK, "no link");
     uint32_t kept = (uint32_t)(config.queue - room.queue);
-    may_double(it, (uint8_t)(it->out.next - kept), kept);
+    may_double(it, (uint8_t)(it->out.next + OUTBOX_COPIES - kept), kept);
 }
 
 static void layer_3(const lapd_report *told) {
     uint8_t counts[LINKS] = {told->given_up, told->given_up_16};
+    wants(told->given_up_tei == (counts[0] != 0 || counts[1] != 0 ? TEI : 255), "another TEI");
     for (int i = 0; i < LINKS; i++)
         gives_up(&links[i], counts[i]);
     for (int i = 0; i < told->note_count; i++)
         if (told->notes[i].error != 0 && strchr("BEFIJKLNO", told->notes[i].error) != NULL)
             begins_anew(&links[told->notes[i].service == LAPD_PACKET]);
     for (int i = 0; i < LINKS; i++)
-        send_waiting(&links[i].out, links[i].service, TEI);
+        outbox_send(&links[i].out, &card, 0, links[i].service, TEI, layer_3);
 }
 
 /* New messages wait; a link that is down is established. */
 static void asks(link *it) {
     while (it->entered < MANY && it->out.waiting < MOST_WAITING) {
-        wants(enters(&it->out, (const uint8_t *)&it->entered, sizeof it->entered), "no copy is kept");
+        wants(outbox_enter(&it->out, (const uint8_t *)&it->entered, sizeof it->entered), "no copy is kept");
         it->entered++;
     }
     uint8_t state = 0;

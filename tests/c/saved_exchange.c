@@ -17,7 +17,7 @@
 
 static const lapd_config config = {.lines = SAVED_LINES, .terminals = 2, .k = 1, .k16 = 3, .queue = 8, .unit_queue = 4, .control = 4,
                                    .slots = 32 * SAVED_LINES, .n201 = 260, .n200 = 10};
-static const lapd_lengths lengths = {SAVED_T200, 10000, 1000, 2000};
+static const lapd_lengths lengths = {SAVED_T200, 10000, 1000, 2000, {0}};
 static lapd_card card = LAPD_CARD_NONE;
 static lapd_clock timers = LAPD_CLOCK_NONE;
 static lapd_report report;

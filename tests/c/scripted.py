@@ -131,7 +131,7 @@ class Station:
             raise Faulty("bad card") from None
         self.clock = None if self.is_timed else lapd.Clock(config)
 
-    def told(self, line: int, report: lapd.Report, tei: Optional[int] = None) -> Iterator[str]:
+    def told(self, line: int, report: lapd.Report) -> Iterator[str]:
         for note in report.notes:
             has_contents = note.kind in (lapd.NoteKind.DATA_INDICATION, lapd.NoteKind.UNIT_INDICATION)
             more = f" {shown(report.contents)}" if has_contents else f" {note.error}" if note.error else ""
@@ -140,17 +140,17 @@ class Station:
             yield f"{line} dropped {report.cause}"
         if report.lost:
             yield f"{line} lost {report.lost}"
-        yield from self.given_up(line, report, report.notes[0].tei if tei is None and report.notes else tei)
+        yield from self.given_up(line, report)
         if self.clock:
             self.clock.apply(line, report, self.now)
         elif report.orders or report.line != line:
             raise AssertionError(f"{line} {report}")
 
-    def given_up(self, line: int, report: lapd.Report, tei: Optional[int]) -> Iterator[str]:
+    def given_up(self, line: int, report: lapd.Report) -> Iterator[str]:
         if self.losses and report.given_up:
-            yield f"{line} given-up {tei} {report.given_up}"
+            yield f"{line} given-up {report.given_up_tei} {report.given_up}"
         if self.losses and report.given_up_16:
-            yield f"{line} given-up-16 {tei} {report.given_up_16}"
+            yield f"{line} given-up-16 {report.given_up_tei} {report.given_up_16}"
 
     def received(self, line: int, octets: bytes) -> Iterator[str]:
         for octet in octets:
@@ -192,7 +192,7 @@ class Station:
         except lapd.Refused as fault:
             yield f"{line} refused {fault}"
             return
-        yield from self.told(line, report, tei)
+        yield from self.told(line, report)
 
     def waited(self, ms: int) -> Iterator[str]:
         end = self.now + ms

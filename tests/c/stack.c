@@ -30,7 +30,7 @@ static lapd_clock timers, other_timers;
 static lapd_report report;
 static const lapd_config config = {.lines = 1, .terminals = 8, .k = 7, .k16 = 7, .queue = 8, .unit_queue = 4, .control = 4, .slots = 8,
                                    .n201 = 260, .n200 = 3};
-static const lapd_lengths lengths = {1000, 10000, 1000, 2000};
+static const lapd_lengths lengths = {1000, 10000, 1000, 2000, {0}};
 
 /* What is called, and what it is called with. */
 static void (*called)(void);

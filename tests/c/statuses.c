@@ -10,7 +10,7 @@
 #include "lapd.h"
 #include "lapd_memory.h"
 
-enum { TURNS = 8000000, MOST_CALLS = 70, MOST_STATUSES = 64, FIELDS = 14, SAVED = 2048 };
+enum { TURNS = 30000000, MOST_CALLS = 70, MOST_STATUSES = 64, FIELDS = 14, SAVED = 2048 };
 
 static struct {
     const char *name;
@@ -82,7 +82,8 @@ static lapd_config config(void) {
     fields[FIELDS - 1] = (uint16_t)below(2);
     if (below(2))
         fields[below(FIELDS)] = 0xFFFF;
-    memcpy(&it, fields, sizeof it);
+    memcpy(&it, fields, sizeof fields);
+    it.reserved[below(18)] = below(8) == 0;
     return it;
 }
 
@@ -107,10 +108,10 @@ static size_t length, length_of_clock = 1;
 static void starts_and_ends(void) {
     lapd_config of_card = config(), of_clock = config();
     refuses = below(4) == 0;
-    lapd_lengths of_timers = {below(8), 10, 10, below(8)};
+    lapd_lengths of_timers = {below(8), 10, 10, below(8), {0, 0, 0, below(8) == 0}};
     switch (below(11)) {
     case 10: CALL(lapd_card_save, &card, image, below(2) ? sizeof image : 100, &length); break;
-    case 9: CALL(lapd_card_restore, &card, image, length); break;
+    case 9: CALL(lapd_card_restore, &card, image, below(8) ? length : 0); break;
     case 8: CALL(lapd_clock_save, &timers, image_of_clock, below(2) ? sizeof image_of_clock : 9, &length_of_clock); break;
     case 7: CALL(lapd_clock_restore, &timers, image_of_clock, length_of_clock - below(2)); break;
     case 6: CALL(lapd_card_start_timed, &card, &of_card, &of_timers); break;
@@ -194,9 +195,9 @@ static void questions(void) {
     uint64_t moment;
     if (below(40) == 0)
         at = below(1000);
-    const lapd_note note = {(uint8_t)(1 + at % LAPD_REMOVE_ALL), LAPD_PACKET, 64, 0};
+    const lapd_note note = {(uint8_t)(1 + at % LAPD_REMOVE_ALL), LAPD_PACKET, 64, 0, {0}};
     const lapd_config config = {.sapi = (uint16_t)(at % 63)};
-    const lapd_lengths lengths = {below(4), 10, 10, 10};
+    const lapd_lengths lengths = {below(4), 10, 10, 10, {0, below(8) == 0, 0, 0}};
     uint8_t whole[LAPD_MOST_FRAME];
     size_t count;
     switch (below(17)) {

@@ -1,5 +1,5 @@
 /*
- * texts.c: what octets say. Each line of standard input has octets as digits, or `-`, and behind a space who sent them, 0 or 1;
+ * texts.c: what octets say. Each line of standard input has octets as digits, or `-`, and after a space who sent them, 0 or 1;
  * for each its text is printed, which is asked for with all room, with just enough, and with too little. For tests alone.
  */
 #include <stdio.h>
@@ -26,7 +26,7 @@ static size_t octets_of(const char *digits, uint8_t *octets) {
     return count;
 }
 
-/* With less room than it takes nothing is written, and with just so much what is behind stays. */
+/* With less room than it takes nothing is written, and with just so much what follows stays. */
 static void in_little_room(const uint8_t *octets, size_t count, uint16_t side, const char *whole, const char *line) {
     char text[ROOM], was[ROOM];
     size_t octets_of_text = strlen(whole) + 1;

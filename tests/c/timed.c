@@ -20,7 +20,7 @@ enum { TURNS = 60000, LINES = 3, LOOKS_EACH = 500, MOST_RUN = 40 };
 
 static lapd_config config = {.lines = LINES, .terminals = 4, .k = 3, .k16 = 1, .queue = 4, .unit_queue = 2, .control = 4, .slots = 20,
                              .n201 = 16, .n200 = 2};
-static const lapd_lengths lengths = {100, 1000, 150, 250};
+static const lapd_lengths lengths = {100, 1000, 150, 250, {0}};
 static lapd_card timed = LAPD_CARD_NONE, plain = LAPD_CARD_NONE;
 static lapd_clock timers = LAPD_CLOCK_NONE;
 static uint64_t now;
@@ -77,7 +77,8 @@ static void same_report(uint32_t line, const lapd_report *own, const lapd_report
     wants(own->order_count == 0, "an order");
     wants(own->note_count == told->note_count && own->cause == told->cause && own->lost == told->lost && own->begun == told->begun
               && own->delivered == told->delivered && own->length == told->length && own->more == told->more
-              && own->reopened == told->reopened && own->given_up == told->given_up && own->given_up_16 == told->given_up_16,
+              && own->reopened == told->reopened && own->given_up == told->given_up && own->given_up_16 == told->given_up_16
+              && own->given_up_tei == told->given_up_tei,
           "another report");
     wants(!own->reopened || (own->reopened_service == told->reopened_service && own->reopened_tei == told->reopened_tei), "another link has room");
     wants(memcmp(own->notes, told->notes, own->note_count * sizeof *own->notes) == 0
@@ -130,7 +131,7 @@ static void moments(void) {
 
 /* Other lengths for timers that are started from now on, at both; mostly good ones. */
 static void lengths_change(void) {
-    const lapd_lengths to = {below(200), 1 + below(2000), 1 + below(300), 1 + below(500)};
+    const lapd_lengths to = {below(200), 1 + below(2000), 1 + below(300), 1 + below(500), {0}};
     uint32_t status = lapd_card_set_lengths(&timed, &to);
     wants(status == (to.t200 == 0 ? LAPD_WRONG_TIME : LAPD_OK), "other lengths");
     wants(lapd_clock_set_lengths(&timers, to.t200, to.t203, to.t201, to.t202) == status, "other lengths of the clock");
@@ -359,7 +360,7 @@ static void look(void) {
 /* Calls of a card that keeps its own timers, and of one that does not. */
 static void wrong_calls(void) {
     static const lapd_timer timer = {LAPD_T201, 0, 0};
-    static const lapd_lengths bad[] = {{0, 1, 1, 1}, {1, 3600001, 1, 1}, {1, 1, UINT32_MAX, 1}, {1, 1, 1, 0}, {1, 1, 1, 3600001}};
+    static const lapd_lengths bad[] = {{0, 1, 1, 1, {0}}, {1, 3600001, 1, 1, {0}}, {1, 1, UINT32_MAX, 1, {0}}, {1, 1, 1, 0, {0}}, {1, 1, 1, 3600001, {0}}};
     lapd_card none = LAPD_CARD_NONE;
     lapd_config bad_config = config;
     lapd_report told = {.line = 9};

@@ -10,22 +10,26 @@ from vithrynel.image import LONGEST
 WORDS = ["in 0 00817F", "in 0 00{:02X}7F", "in 0 0281{:02X}{:02X}", "in 0 0281{:02X}{:02X}08", "in 0 0281{:02X}01", "in 1 00817F", "in 0 40817F",
          "in 0 FCFF030F{:02X}{:02X}01FF", "in 0 FEFF030F0000{:02X}81", "in 0 FEFF030F{:02X}3402{:02X}", "next 0", "next 0", "next 1", "data 0 64 08{:02X}",
          "data16 0 64 {:02X}", "unit 0 127 4{:X}", "unit 0 64 {:02X}", "assign 0 64", "assign 0 65", "assign 1 64", "remove 0 6{}", "check 0 64",
-         "disown 0 9{}", "establish 0 64", "establish16 0 64", "release 0 64", "busy 0 64", "ready 0 64", "ask 0", "verify 0 64", "down 1", "wait {}00",
-         "wait {}000", "wait 1{}000"]
+         "in 0 FCFF030F00000783", "in 0 FCFF030F00000581", "disown 0 9{}", "establish 0 64", "establish16 0 64", "release 0 64", "busy 0 64",
+         "ready 0 64", "ask 0", "verify 0 64", "down 1", "wait {}00", "wait {}000", "wait 1{}000"]
 # Links come up, by commands of the other side, and mostly stay so: then contents fill their queues, and links wait for room.
 UP = ["assign 0 64", "in 0 0{}817F", "in 0 4{}817F"]
 FULL = ["data 0 64 08{:02X}", "data 0 64 08{:02X}", "data16 0 64 {:02X}", "data16 0 64 {:02X}", "next 0", "in 0 0281010{}", "unit 0 64 {:02X}", "assign 0 65",
         "wait {}"]
+# By annex B a check is due, and mostly settles.
+DUE = ["assign 0 64", "assign 0 65", "check 0 64", "in 0 FCFF030F00000783", "wait 2{}00"]
 CARDS = ["2 2 7 8 4 4 64 260 3", "2 8 1 8 16 16 8192 260 10", "2 2 3 127 1 2 6 8 1 127", "2 2 7 8 4 4 64 260 3 user", "2 2 7 8 4 4 64 260 3 user 4660",
          "2 2 7 8 4 4 64 260 3 annex-b", "2 2 1 1 1 2 8 8 1", "2 2 1 2 2 4 8 260 2 annex-b", "2 2 1 2 2 4 8 260 2 user 7"]
 
 
 def image_of_run(numbers: random.Random, scripted: Any) -> bytes:
-    """The image of a card after a random run: in one of four its links are up, and their queues fill."""
+    """The image of a card after a random run: in one of four its links are up, and their queues fill; by annex B, in half of the
+    others a check is due at first."""
     is_timed, kind = numbers.random() < 0.7, numbers.choice(["frames", "frames", "card"])
     station = scripted.Station(is_timed)
     card, is_full = numbers.choice(CARDS), numbers.random() < 0.25
-    before, words = ([it.format(2 * ("user" in card)) for it in UP], FULL) if is_full else ([], WORDS)
+    due = DUE * (card.endswith("annex-b") and numbers.random() < 0.5)
+    before, words = ([it.format(2 * ("user" in card)) for it in UP], FULL) if is_full else (due, WORDS)
     for line in [f"{kind} {card}", *before, *(numbers.choice(words) for _ in range(numbers.randint(0, 60)))]:
         text = line.format(*(numbers.choice((0x7F, 0x01, 0x73, numbers.randrange(10), numbers.randrange(256))) if ":" in line else numbers.randrange(10) for _ in range(4)))
         try:

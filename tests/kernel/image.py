@@ -1,4 +1,6 @@
 """Debian's kernel of the day, by apt, kept in a folder outside of the repository; and its boot in QEMU."""
+import contextlib
+import fcntl
 import lzma
 import os
 import re
@@ -19,6 +21,15 @@ class Missing(Exception):
 def cache():
     """The folder that is kept between runs."""
     return os.path.join(os.environ.get("XDG_CACHE_HOME") or os.path.expanduser("~/.cache"), "vithrynel", "kernel")
+
+
+@contextlib.contextmanager
+def locked():
+    """In `with` nobody else changes what is kept: tests that run at the same time fetch it once."""
+    os.makedirs(cache(), exist_ok=True)
+    with open(f"{cache()}/lock", "w", encoding="ascii") as file:
+        fcntl.flock(file, fcntl.LOCK_EX)
+        yield
 
 
 def words_of(words, **more):
@@ -109,11 +120,12 @@ def kernel():
     try:
         package, version = newest()
         folder = f"{kept}/{package}_{version}"
-        if not os.path.isdir(folder):
-            with tempfile.TemporaryDirectory(dir=kept, prefix="fetch-") as work:
-                os.mkdir(f"{work}/image")
-                unpack(download(f"{package}={version}", work), f"{work}/image", "./boot/vmlinuz-*", "*/isdn/mISDN/*")
-                keep(work, folder)
+        with locked():
+            if not os.path.isdir(folder):
+                with tempfile.TemporaryDirectory(dir=kept, prefix="fetch-") as work:
+                    os.mkdir(f"{work}/image")
+                    unpack(download(f"{package}={version}", work), f"{work}/image", "./boot/vmlinuz-*", "*/isdn/mISDN/*")
+                    keep(work, folder)
         return folder
     except Missing:
         before = sorted((f"{kept}/{it}" for it in os.listdir(kept) if os.path.exists(f"{kept}/{it}/kernel")), key=os.path.getmtime)

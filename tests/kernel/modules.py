@@ -7,7 +7,7 @@ import shutil
 import subprocess
 import tempfile
 
-from image import Missing, download, files_of, unpack, words_of
+from image import Missing, download, files_of, locked, unpack, words_of
 
 MODULES = ("dahdi.ko", "dahdi_dynamic.ko", "dahdi_dynamic_loc.ko")
 # What Debian's own Kbuild has of these three.
@@ -67,10 +67,11 @@ def build(folder, work):
 def dahdi(folder):
     """The files of DAHDI's modules for a kernel that is kept, in the order in which they are loaded; beside them dahdi/user.h."""
     files = [f"{folder}/{it}" for it in MODULES]
-    if not all(map(os.path.exists, files)):
-        for tool in ("make", "gcc"):
-            if not shutil.which(tool):
-                raise Missing(f"there is no {tool} to build DAHDI with")
-        with tempfile.TemporaryDirectory(prefix="dahdi-") as work:
-            build(folder, work)
+    with locked():
+        if not all(map(os.path.exists, files)):
+            for tool in ("make", "gcc"):
+                if not shutil.which(tool):
+                    raise Missing(f"there is no {tool} to build DAHDI with")
+            with tempfile.TemporaryDirectory(prefix="dahdi-") as work:
+                build(folder, work)
     return files

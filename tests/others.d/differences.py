@@ -8,7 +8,8 @@ SIDES = 'profile', 'theirs', 'open'
 
 
 class Known(NamedTuple):
-    """A block: a difference with its title, the cells that have it, whose it is, and why."""
+    """A block: a difference with its title, the cells that have it, whose it is, and why; and of how many cells mISDN and libpri
+    agree against ours, with what they do."""
     table: str
     title: str
     at: List[str]
@@ -18,6 +19,8 @@ class Known(NamedTuple):
     shows: str
     side: str
     why: str
+    both: int
+    both_do: str
 
     def names(self, stack, column, event):
         return stack in self.cells and any(map(_match(column), self.at)) and self.names_event(event)
@@ -45,8 +48,9 @@ def _known(block):
     for item in fields['cells'].split(', '):
         stack, _, count = item.partition(' ')
         cells[stack] = int(count or 0)
+    both, _, both_do = fields.get('both', '0').partition('; ')
     return Known(table, title, fields.get('at', '').split('; '), fields.get('events', '').split('; '), cells,
-                 fields.get('alike', ''), fields.get('shows', ''), fields['side'], fields['why'])
+                 fields.get('alike', ''), fields.get('shows', ''), fields['side'], fields['why'], int(both), both_do)
 
 
 def known() -> List[Known]:
@@ -69,3 +73,13 @@ def judge(table, differences, blocks, stacks):
         for stack, count in block.cells.items():
             if stack in stacks and found[block.title, stack] != count:
                 yield '%s: %s: %s has %d cells, not %d' % (table, block.title, stack, found[block.title, stack], count)
+
+
+def judge_both(table, differences, blocks):
+    """What is wrong with the cells in which mISDN and libpri agree against ours, as libpri's differences: blocks that count
+    otherwise."""
+    names = [next((block.title for block in blocks if block.table == table and block.names(it.stack, it.column, it.event)), None)
+             for it in differences]
+    for block in blocks:
+        if block.table == table and names.count(block.title) != block.both:
+            yield '%s: %s: mISDN and libpri agree in %d cells, not %d' % (table, block.title, names.count(block.title), block.both)

@@ -13,6 +13,10 @@ NOT_THERE = {
 LIMITS = [('7, two outstanding', 'data request')]
 
 
+# What may come next: an answer to what the link waits for.
+NEXT = {'5': 'UA F=1', '7': 'RR F=1 N(R)=0', '8': 'RR F=1 N(R)=0'}
+
+
 class Difference(NamedTuple):
     """A cell in which a stack does something else."""
     stack: str
@@ -36,6 +40,13 @@ def outcomes(program, cells):
         name, _, is_started = timer.partition(' ')
         yield Outcome(items(control), tuple(sorted(items(told))), items(contents), name + ('*' if is_started else ''), int(state),
                       event in REQUESTS and served == '0')
+
+
+def afterwards(program, cells):
+    """What a stack's program does at the next answer, after each of these cells, without whether it serves it."""
+    lines = ''.join('begin %s\n%s\n%s\n' % (COLUMNS[column], words_of(event), words_of(NEXT[column[0]])) for column, event in cells)
+    ran = subprocess.run([program], input=lines, stdout=subprocess.PIPE, encoding='utf-8', check=True)
+    return [line.partition('|')[2] for line in ran.stdout.splitlines()[1::2]]
 
 
 def items(text):

@@ -1,10 +1,11 @@
 /*
- * misdn_link.c: a link of Linux's mISDN, its layer2.c and fsm.c over the stubs of kernel.h (link.h). A confirmation of each
- * frame comes at once, so that the next may go.
+ * misdn_link.c: a link of Linux's mISDN, its layer2.c and fsm.c over the stubs of kernel.h (link.h). After each event a driver
+ * confirms each frame that was sent, one by one, as in Linux: until then the next waits, and only the last one's confirmation has
+ * the link look for I-frames that may go. If the event sent nothing, nothing is confirmed.
  *
  * Words of the command line that make differences alike: `reject-timers` (after REJ in state 7, T200 runs if anything is
- * outstanding, and T203 else), `clear-busy` (the end of own busy is told if it was busy), `final-rnr` (RNR with F=1 acknowledges
- * in state 8).
+ * outstanding, and T203 otherwise), `reject-sends` (REJ that ends the other end's busy lets I-frames go), `clear-busy` (the end
+ * of own busy is told if it was busy), `final-rnr` (RNR with F=1 acknowledges in state 8).
  */
 #include "kernel.h"
 
@@ -19,6 +20,7 @@ static struct mISDNchannel upper;
 static struct mISDNstack stack;
 static struct mISDNdevice device;
 static u_int no_debug;
+static struct sk_buff *unconfirmed; /* a frame that was sent, or null */
 
 /* ---- What layer2.c calls --------------------------------------------------------------------------------------------- */
 
@@ -70,8 +72,7 @@ static int up(struct mISDNchannel *channel, struct sk_buff *it) {
 }
 static int down(struct mISDNchannel *channel, struct sk_buff *it) {
     sends(it->data, it->len);
-    test_and_clear_bit(FLG_L1_NOTREADY, &at->flag);
-    dev_kfree_skb(it);
+    unconfirmed = it;
     return 0;
 }
 static int control(struct mISDNchannel *channel, u_int command, void *argument) { return 0; }
@@ -152,7 +153,7 @@ static void mend_reject(void) {
 }
 
 static bool hears(const uint8_t *octets, size_t length) {
-    bool is_reject = octets[2] == REJ && at->l2m.state == ST_L2_7 && is_alike("reject-timers");
+    bool is_reject = octets[2] == REJ && at->l2m.state == ST_L2_7;
     bool is_final = octets[2] == RNR && (octets[0] & 2) && length == 4 && (octets[3] & 1) && at->l2m.state == ST_L2_8;
     if (is_final && is_alike("final-rnr") && legalnr(at, octets[3] >> 1))
         setva(at, octets[3] >> 1);
@@ -160,8 +161,10 @@ static bool hears(const uint8_t *octets, size_t length) {
     skb_put_data(it, octets, length);
     mISDN_HEAD_PRIM(it) = PH_DATA_IND;
     bool is_refused = ph_data_indication(at, mISDN_HEAD_P(it), it) != 0;
-    if (is_reject)
+    if (is_reject && is_alike("reject-timers"))
         mend_reject();
+    if (is_reject && is_alike("reject-sends"))
+        mISDN_FsmEvent(&at->l2m, EV_L2_ACK_PULL, NULL);
     return !is_refused;
 }
 
@@ -204,10 +207,10 @@ static bool meets(happening what, const uint8_t *octets, size_t length) {
 
 bool stack_meets(happening what, const uint8_t *octets, size_t length) {
     bool is_served = meets(what, octets, length);
-    unsigned before;
-    do {
-        before = sent_count();
-        mISDN_FsmEvent(&at->l2m, EV_L2_ACK_PULL, NULL);
-    } while (sent_count() != before);
+    while (unconfirmed != NULL) {
+        struct sk_buff *it = unconfirmed;
+        unconfirmed = NULL;
+        ph_data_confirm(at, mISDN_HEAD_P(it), it);
+    }
     return is_served;
 }

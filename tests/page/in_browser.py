@@ -163,7 +163,7 @@ def puts_examples(page: Page, scripts: List[Played]) -> Iterator[str]:
 
 
 def loses_a_frame(page: Page, scripts: List[Played]) -> Iterator[str]:
-    """As a new user: the script in which a frame is lost; an octet of the frame behind it is changed; no REJ goes any more,
+    """As a new user: the script in which a frame is lost; an octet of the frame after it is changed; no REJ goes any more,
     and the frame is dropped for its check."""
     page.open()
     got = page.choose(LOST)
@@ -307,7 +307,7 @@ def is_awake(page: Page, scripts: List[Played]) -> Iterator[str]:
     cases = {
         "2 MB of random text": "".join(numbers.choices(signs, k=2 << 20)),
         "2 MB in a line": "# " + "".join(numbers.choices(signs.replace("\n", ""), k=2 << 20)),
-        "2 MB behind a card line": f"card 1 8 7 8 4 4 64 260 3\n{comments}in 0 00\n",
+        "2 MB after a card line": f"card 1 8 7 8 4 4 64 260 3\n{comments}in 0 00\n",
         "64 lines": begin,
         "ten thousand events": f"card 1 8 7 8 4 4 64 260 3\nassign 0 64\nin 0 00817F\npull 0 20\n{turns}",
         "ten thousand waits": "card 1 8 7 8 4 4 64 260 3\nassign 0 64\n" + "establish 0 64\nwait 3600000\nstored\n" * 3334,

@@ -3,11 +3,11 @@
 A script FOLDER/NAME is either FOLDER/NAME.script, with its transcript beside it in FOLDER/NAME.transcript, or, where it
 is a few lines long, a block of the table FOLDER.txt:
 
-    NAME: FAULT LINE          nothing behind the colon where it has no fault
+    NAME: FAULT LINE          nothing after the colon where it has no fault
     | LINE                    each line of the script
     = LINE                    each line of its transcript, if any
 
-In these lines \\r is a carriage return, \\x and two digits are an octet in hexadecimal, \\{N} behind a sign means N of
+In these lines \\r is a carriage return, \\x and two digits are an octet in hexadecimal, \\{N} after a sign means N of
 it in all, and a \\ at the end that no line feed follows. Blank lines of a table say nothing, nor do those that begin
 with #. The fault line is what the script must write on standard error, and then its status must be 1; without one,
 nothing and 0.

@@ -1,7 +1,7 @@
 """The checked form of lapd.h: before each call that answers a status stands one that looks at its pointers, and answers
 LAPD_WRONG_POINTER where one is null. A function a step:
 
-    buffers   the pointers to octets with a length behind them, which may be null where that is 0
+    buffers   the pointers to octets with a length after them, which may be null where that is 0
     tests     those of a function's pointers, which lapd.c makes, too
     checked   the whole of include/lapd_checked.h
 """
@@ -29,7 +29,7 @@ def pointers(of: Function) -> List[Parameter]:
 
 
 def is_buffer(of: Function, it: Parameter) -> bool:
-    """Whether a length stands behind it."""
+    """Whether a length stands after it."""
     at = of.parameters.index(it) + 1
     return it.kind in ("uint8_t", "char") and at < len(of.parameters) and length_of(of, it).kind == "size_t" and not length_of(of, it).is_pointer
 

@@ -15,7 +15,7 @@ MINUTES, MOST_PROCESSORS = 0.75, 4
 
 
 def rows() -> Dict[str, str]:
-    """The line of each crate in crates.txt, in its order. A word behind the name says what is made of the crate."""
+    """The line of each crate in crates.txt, in its order. A word after the name says what is made of the crate."""
     with open(f"{ROOT}/crates.txt", encoding="utf-8") as lines:
         return {it.partition(":")[0].split()[0]: it for it in lines if ":" in it and not it.startswith("#")}
 

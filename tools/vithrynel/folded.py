@@ -10,6 +10,7 @@ import collections
 import re
 from typing import Dict, FrozenSet, Iterable, List, NamedTuple, Optional, Tuple
 
+from .halves import Halves, declared, narrowed, prototype
 from .static_library import NotBuilt
 from .statements import alive, NAME, next_of, SLOT, Statement, statements, surely_set
 
@@ -22,9 +23,11 @@ LONGEST = 240
 
 class Expression(NamedTuple):
     """A value: its text, what it reads of variables, and whether it reads memory. A comparison is an int; an atom needs no
-    brackets; what was cut to 32 bits is kept as it was; and so is what a number was added to."""
+    brackets; what was cut to 32 bits is kept as it was; and so is what a number was added to. Its high half is made of those of
+    the values `high` (halves.py)."""
     text: str
     reads: FrozenSet[str] = frozenset()
+    high: FrozenSet[str] = frozenset()
     of_memory: bool = False
     is_test: bool = False
     is_atom: bool = True
@@ -55,10 +58,15 @@ def reads(parts: Iterable[Expression]) -> FrozenSet[str]:
     return frozenset().union(*(it.reads for it in parts))
 
 
-def made(text: str, parts: Iterable[Expression], **more: bool) -> Expression:
+def highs(parts: Iterable[Expression]) -> FrozenSet[str]:
+    return frozenset().union(*(it.high for it in parts))
+
+
+def made(text: str, parts: Iterable[Expression], high: Iterable[Expression] = (), **more: bool) -> Expression:
+    """Of parts, and of the high halves of these."""
     parts = list(parts)
     is_of_memory = more.pop("of_memory", False) or any(it.of_memory for it in parts)
-    return Expression(text, reads(parts), is_of_memory, **more)
+    return Expression(text, reads(parts), highs(high), is_of_memory, **more)
 
 
 def signed(sign: str, two: Expression) -> str:
@@ -76,7 +84,8 @@ MACRO = r"[A-Z]\w+"
 class Folding:
     """A function as it is written: its statements, and which values of the stack are not yet set."""
 
-    def __init__(self, of: List[Statement]) -> None:
+    def __init__(self, name: str, of: List[Statement], halves: Halves) -> None:
+        self.name, self.halves = name, halves
         self.of, self.after = of, alive(of)
         self.at_label = {it.text: at for at, it in enumerate(of) if it.kind == "label"}
         self.waiting: Dict[str, Expression] = {}
@@ -84,6 +93,14 @@ class Folding:
         self.times = collections.Counter(it.sets for it in of)
         self.sums: Dict[str, Tuple[str, int]] = {}
         self.known = surely_set(of, next_of(of), [it for it, times in self.times.items() if times == 1])
+
+    def variable(self, name: str) -> Expression:
+        return Expression(name, frozenset([name]), frozenset([f"{self.name}:{name}"]))
+
+    def asked(self, *parts: Expression) -> Tuple[Expression, ...]:
+        """These, whose high halves are looked at."""
+        self.halves.ask(highs(parts))
+        return parts
 
     # -- What is set ------------------------------------------------------------------------------------------------------
 
@@ -94,6 +111,7 @@ class Folding:
                 self.settle(other)
         if value.text != name:
             self.rows.append(f"{name} = {value.text};")
+            self.halves.make(f"{self.name}:{name}", value.high)
 
     def settle(self, name: str) -> None:
         self.assign(name, self.waiting.pop(name))
@@ -112,12 +130,12 @@ class Folding:
     def value(self, name: str, at: int) -> Expression:
         """A variable's value: what is read once more after this statement is set first, unless it is plain."""
         if name not in self.waiting:
-            return Expression(name, frozenset([name]))
+            return self.variable(name)
         it = self.waiting[name]
         is_read_again = name in self.after[at] and self.of[at].sets != name
         if is_read_again and not it.is_plain or it.is_call or len(it.text) > LONGEST:
             self.settle(name)
-            return Expression(name, frozenset([name]))
+            return self.variable(name)
         if not is_read_again:
             del self.waiting[name]
         return it
@@ -138,20 +156,23 @@ class Folding:
         if found:
             one, by = self.value(found[1], at), self.value(found[3], at)
             bits = f"{by.number & int(found[4])}" if by.number is not None else f"({by.operand()} & {found[4]})"
-            return made(f"{one.operand()} {found[2]} {bits}", (one, by), is_atom=False)
+            # C has no shift of a number by as many bits as it has: a place stays one if it has more on each processor.
+            if found[2] == ">>" or not bits.isdigit() or int(bits) > 31:
+                self.asked(one)
+            return made(f"{one.operand()} {found[2]} {bits}", (one, by), [one], is_atom=False)
         found = re.fullmatch(rf"({NAME}) ([-+*&|^]|[<>!=]=?) ({NAME})", text)
         if found:
             return self.pair(*found.groups(), at)
         found = re.fullmatch(rf"!\(({NAME})\)", text)
         if found:
-            one = self.value(found[1], at)
+            one, = self.asked(self.value(found[1], at))
             return made(f"!({one.condition()})" if not one.is_atom else f"!{one.text}", (one,), is_test=True)
         found = re.fullmatch(rf"({NAME}) \? ({NAME}) : ({NAME})", text)
         if found:
             return self.choice(*found.groups(), at)
         found = re.fullmatch(r"\(u(?:32|64)\)\(\(s(\d\d)\)(\S+) (\S+) \(s\d\d\)(\S+)\)", text)
         if found:
-            one, two = self.value(found[2], at), self.value(found[4], at)
+            one, two = self.asked(self.value(found[2], at), self.value(found[4], at))
             cast = f"(s{found[1]})"
             return made(f"{cast}{one.operand()} {found[3]} {cast}{two.operand()}", (one, two), is_test=True, is_atom=False)
         found = re.fullmatch(rf"((?:\([us]\d+\))+)\(({NAME})\)", text)
@@ -161,7 +182,7 @@ class Folding:
             return Expression(text, of_memory=True)
         found = re.fullmatch(rf"({MACRO})\(({NAME})(?:, ({NAME}))?\)", text)
         if found:
-            parts = [self.simple(it, at) for it in found.groups()[1:] if it]
+            parts = self.asked(*(self.simple(it, at) for it in found.groups()[1:] if it))
             return made(f"{found[1]}({', '.join(it.operand() for it in parts)})", parts)
         found = re.fullmatch(r"(i\d\d_load\w*)\((.*)\)", text)
         if found:
@@ -174,7 +195,10 @@ class Folding:
     def pair(self, first: str, sign: str, second: str, at: int) -> Expression:
         one, two = self.value(first, at), self.value(second, at)
         is_test = sign in ("<", ">", "<=", ">=", "==", "!=")
-        it = made(f"{one.operand()} {signed(sign, two)}", (one, two), is_test=is_test, is_atom=False)
+        if is_test:
+            self.asked(one, two)
+        is_low = is_test or sign == "&" and any(it.number is not None and it.number < 1 << 32 for it in (one, two))
+        it = made(f"{one.operand()} {signed(sign, two)}", (one, two), [] if is_low else [one, two], is_test=is_test, is_atom=False)
         if sign == "+" and two.number is not None and two.text.endswith("ull"):
             base, more = one.sum_of or (one, 0)
             return it._replace(sum_of=(base, more + two.number))
@@ -186,10 +210,13 @@ class Folding:
             if name in self.waiting and self.waiting[name].of_memory:
                 self.settle(name)
         one, two, test = (self.value(it, at) for it in (first, second, which))
-        return made(f"{test.text if test.is_atom else f'({test.text})'} ? {one.operand()} : {two.operand()}", (one, two, test), is_atom=False)
+        self.asked(test)
+        return made(f"{test.text if test.is_atom else f'({test.text})'} ? {one.operand()} : {two.operand()}", (one, two, test), (one, two),
+                    is_atom=False)
 
     def cast(self, to: str, one: Expression) -> Expression:
-        it = made(f"{to}{one.text if one.is_atom and not one.is_test else f'({one.text})'}", (one,))
+        is_whole = set(re.findall(r"\d+", to)) == {"64"}
+        it = made(f"{to}{one.text if one.is_atom and not one.is_test else f'({one.text})'}", (one,), [one] * is_whole)
         return it._replace(whole=one) if to == "(u32)" else it
 
     def place(self, text: str, at: int) -> Tuple[str, List[Expression]]:
@@ -206,7 +233,7 @@ class Folding:
         if base.text in self.sums and base.text in self.known[at]:
             of, further = self.sums[base.text]
             if added < AHEAD and added + further + more + ahead < AHEAD:
-                base, added = Expression(of, frozenset([of])), added + further
+                base, added = self.variable(of), added + further
         if added + more + ahead < AHEAD:
             return f"{base.text}, {added + more + ahead}", [base]
         if added >= 1 << 63:  # less than the base
@@ -216,9 +243,19 @@ class Folding:
 
     def call(self, text: str, at: int) -> Expression:
         self.settle_memory()
+        name, parts = self.words(text, at)
+        it = made(f"{name}({', '.join(it.text for it in parts)})", parts, of_memory=True, is_call=True)
+        return it._replace(high=frozenset([name]))
+
+    def words(self, text: str, at: int) -> Tuple[str, List[Expression]]:
+        """The name of a function that is called, and what it is handed."""
         name, words = re.fullmatch(r"(\w+)\((.*)\)", text).groups()
-        parts = [self.value(it, at) if re.fullmatch(NAME, it) else Expression(it) for it in words.split(", ")]
-        return made(f"{name}({', '.join(it.text for it in parts)})", parts, of_memory=True, is_call=True)
+        parts = [self.value(one, at) if re.fullmatch(NAME, one) else Expression(one) for one in words.split(", ")]
+        for which, one in enumerate(parts[1:]):
+            self.halves.make(f"{name}:w_p{which}", one.high)
+        if not name.startswith("w2c_"):
+            self.asked(*parts)
+        return name, parts
 
     def is_fixed(self, name: str, at: int) -> bool:
         """Whether a variable has, from this statement on, the value that it has here."""
@@ -269,23 +306,28 @@ class Folding:
         self.note_sum(it.sets, value, at)
         self.assign(it.sets, value)
         if is_kept:
-            self.waiting[it.text] = Expression(it.sets, frozenset([it.sets]))
+            self.waiting[it.text] = self.variable(it.sets)
 
     def do(self, it: Statement, at: int) -> None:
         found = re.fullmatch(r"(i\d\d_store\w*)\((.*), (\S+)\)", it.text)
         if found:
             place, parts = self.place(found[2], at)
             value = self.value(found[3], at)
+            if found[1] in ("i64_store", "i64_store_8"):
+                self.asked(value)
             self.settle_memory()
             self.rows.append(f"{found[1]}(AT({place}), {value.text});")
             return
-        name, words = re.fullmatch(r"(\w+)\((.*)\)", it.text).groups()
-        parts = [self.value(one, at) if re.fullmatch(NAME, one) else Expression(one) for one in words.split(", ")]
+        name, parts = self.words(it.text, at)
         self.settle_memory()
         self.rows.append(f"{name}({', '.join(one.text for one in parts)});")
 
     def go(self, it: Statement, at: int) -> None:
         value = self.value(it.reads[0], at) if it.reads else None
+        if it.kind == "return":
+            self.halves.make(self.name, value.high)
+        elif value:
+            self.asked(value)
         wanted = frozenset().union(*(self.after[self.at_label[to]] for to in it.to)) if it.to else frozenset()
         self.settle_all(lambda name, _: name in wanted)
         if it.kind == "if":
@@ -307,16 +349,6 @@ class Folding:
         return self.rows
 
 
-def declared(kind: str, names: List[str]) -> List[str]:
-    rows, row = [], ""
-    for it in names:
-        if row and len(row) + len(it) > 110:
-            rows.append(row)
-            row = ""
-        row += f", {it}" if row else f"{kind} {it}"
-    return [f"{it};" for it in [*rows, row] if it]
-
-
 # What does more than answer.
 CALL = r"\b(?:w2c_|host_|wasm_rt_)\w+\("
 
@@ -332,19 +364,36 @@ def without_unread(rows: List[str]) -> List[str]:
         rows = rest
 
 
-def folded_function(head: str, body: str) -> str:
-    """A function with expressions."""
-    kinds = {name: kind for kind, names in re.findall(r"^(u32|u64) (w_l\d+ = 0[^;]*);\n", body, re.M) for name in re.findall(r"w_l\d+", names)}
+class Folded(NamedTuple):
+    """A function with expressions: how it begins, what it does, and the kinds of its variables."""
+    head: str
+    rows: List[str]
+    kinds: Dict[str, str]
+
+
+def folded_function(name: str, head: str, body: str, halves: Halves) -> Folded:
+    kinds = {it: kind for kind, names in re.findall(r"^(u32|u64) (w_l\d+ = 0[^;]*);\n", body, re.M) for it in re.findall(r"w_l\d+", names)}
     rows = re.sub(r"^(?:u32|u64) w_[lij]\d+[^;]*;\n", "", body, flags=re.M).rstrip("\n").split("\n")
-    rows = without_unread(Folding(statements([it for it in rows if it])).text())
+    rows = without_unread(Folding(name, statements([it for it in rows if it]), halves).text())
     used = sorted(set(re.findall(r"\bw_[ijl]\d+\b", "\n".join(rows))), key=lambda it: (int(it[3:]), it))
-    kinds.update((it, {"i": "u32", "j": "u64"}[it[2]]) for it in used if it[2] != "l")
-    of = {kind: [it + " = 0" * (it[2] == "l") for it in used if kinds[it] == kind] for kind in ("u32", "u64")}
-    unused = [f"(void){it};" for it in re.findall(r"w_p\d+", head) if not re.search(rf"\b{it}\b", "\n".join(rows))]
-    return head + "\n".join([*declared("u32", of["u32"]), *declared("u64", of["u64"]), "FUNC_PROLOGUE;", *unused, *rows, "}"]) + "\n"
+    return Folded(head, rows, {it: {"i": "u32", "j": "u64"}.get(it[2]) or kinds[it] for it in used})
+
+
+def written(name: str, it: Folded, wide: FrozenSet[str]) -> str:
+    """A function, each variable of which is as wide as it needs be."""
+    kinds = {one: "place" if kind == "u64" and f"{name}:{one}" not in wide else kind for one, kind in it.kinds.items()}
+    rows = [row for kind in ("u32", "place", "u64")
+            for row in declared(kind, [one + " = 0" * (one[2] == "l") for one, of in kinds.items() if of == kind])]
+    unused = [f"(void){one};" for one in re.findall(r"w_p\d+", it.head) if not re.search(rf"\b{one}\b", "\n".join(it.rows))]
+    return narrowed(it.head, wide) + "\n".join([*rows, "FUNC_PROLOGUE;", *unused, *it.rows, "}"]) + "\n"
 
 
 def folded(body: str) -> str:
     """All functions of wasm2c's text with expressions; the rest stays."""
-    return re.sub(r"^(static (?:u32|u64|void) w2c_\w+\([^)]*\) \{\n)(.*?)^\}\n(?=\n|\Z)",
-                  lambda it: folded_function(it[1], it[2]), body, flags=re.M | re.S)
+    form = re.compile(r"^(static (?:u32|u64|void) (w2c_\w+)\([^)]*\) \{\n)(.*?)^\}\n(?=\n|\Z)", re.M | re.S)
+    halves = Halves()
+    made = {name: folded_function(name, head, rows, halves) for head, name, rows in form.findall(body)}
+    wide = halves.wide()
+    body = form.sub(lambda it: written(it[2], made[it[2]], wide), body)
+    return re.sub(r"^static \w+ (w2c_\w+)\([^)]*\);$",
+                  lambda it: prototype(narrowed(made[it[1]].head, wide)) if it[1] in made else it[0], body, flags=re.M)

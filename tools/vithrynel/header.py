@@ -43,12 +43,16 @@ class Struct(NamedTuple):
     alignment: int
 
 
+def bare(source: str) -> str:
+    """A header without comments, with what its words for a function's kind mean in C99."""
+    found = re.sub(r"/\*.*?\*/", "", source, flags=re.S)
+    return functools.reduce(lambda it, word: re.sub(f"^{word} ", KINDS[word], it, flags=re.M), KINDS, found)
+
+
 @functools.lru_cache(None)
 def text() -> str:
-    """The header without comments, with what its words for a function's kind mean in C99."""
     with open(HEADER, encoding="utf-8") as file:
-        found = re.sub(r"/\*.*?\*/", "", file.read(), flags=re.S)
-    return functools.reduce(lambda it, word: re.sub(f"^{word} ", KINDS[word], it, flags=re.M), KINDS, found)
+        return bare(file.read())
 
 
 def parameter(words: str) -> Parameter:
@@ -58,12 +62,16 @@ def parameter(words: str) -> Parameter:
     return Parameter(found[2], found[4], bool(found[3]), bool(found[1]))
 
 
+def functions_in(words: str) -> List[Function]:
+    rows = re.findall(r"^(uint(?:32|64)_t) (lapd_\w+)\(([^)]*)\);", words, re.M)
+    return [Function(name, result, tuple(map(parameter, words.split(",") if words != "void" else ())))
+            for result, name, words in rows]
+
+
 @functools.lru_cache(None)
 def functions() -> List[Function]:
     """The functions of the library, in order: none of those that the header defines."""
-    rows = re.findall(r"^(uint(?:32|64)_t) (lapd_\w+)\(([^)]*)\);", text(), re.M)
-    return [Function(name, result, tuple(map(parameter, words.split(",") if words != "void" else ())))
-            for result, name, words in rows]
+    return functions_in(text())
 
 
 @functools.lru_cache(None)
@@ -79,9 +87,13 @@ def defined() -> List[str]:
     return re.findall(r"^static inline .*?\b(lapd_\w+)\(", text(), re.M)
 
 
+def numbers_in(words: str) -> Dict[str, int]:
+    return {name: int(number) for name, number in re.findall(r"\b(LAPD_\w+) = (\d+)\b", words)}
+
+
 def numbers() -> Dict[str, int]:
     """The header's numbers by name."""
-    return {name: int(number) for name, number in re.findall(r"\b(LAPD_\w+) = (\d+)\b", text())}
+    return numbers_in(text())
 
 
 @functools.lru_cache(None)
@@ -91,20 +103,29 @@ def enums() -> List[Dict[str, int]]:
     return [{name: int(number) for name, number in re.findall(r"\b(LAPD_\w+) = (\d+)\b", it)} for it in bodies]
 
 
-def laid_out(name: str, body: str, known: Dict[str, Struct]) -> Struct:
+def laid_out(name: str, body: str, known: Dict[str, Struct], counts: Dict[str, int]) -> Struct:
     fields, at, alignment = [], 0, 1
     for kind, field, count in re.findall(r"(\w+|void \*) ?\b(\w+)(?:\[(\w+)\])?;", body):
         size, own = (known[kind].octets, known[kind].alignment) if kind in known else (PLAIN[kind], PLAIN[kind])
         at = -(-at // own) * own
-        many = None if not count else int(count) if count.isdigit() else numbers()[count]
+        many = None if not count else int(count) if count.isdigit() else counts[count]
         fields.append(Field(kind, field, many, at))
         at, alignment = at + size * (1 if many is None else many), max(alignment, own)
     return Struct(name, tuple(fields), -(-at // alignment) * alignment, alignment)
 
 
+def structs_in(words: str) -> Dict[str, Struct]:
+    found: Dict[str, Struct] = {}
+    for name, body in re.findall(r"^(?:typedef )?struct (\w+) \{\n(.*?)^\}", words, re.M | re.S):
+        found[name] = laid_out(name, body, found, numbers_in(words))
+    return found
+
+
 @functools.lru_cache(None)
 def structs() -> Dict[str, Struct]:
-    found: Dict[str, Struct] = {}
-    for name, body in re.findall(r"^(?:typedef )?struct (\w+) \{\n(.*?)^\}", text(), re.M | re.S):
-        found[name] = laid_out(name, body, found)
-    return found
+    return structs_in(text())
+
+
+def octets_of(kind: str, known: Dict[str, Struct]) -> int:
+    """How many octets a value of a type has, which is a plain one or a struct."""
+    return known[kind].octets if kind in known else PLAIN[kind]

@@ -85,7 +85,7 @@ class Line:
     procedure: Optional[Tuple[int, int, int]] = None  # 1 or 2, attempts, and Ri or the TEI
     # all others'
     remembered: List[Tuple[int, int]] = field(default_factory=list)
-    check: Optional[Tuple[int, int, int, int]] = None  # period, TEI, and responses in each period
+    check: Optional[Tuple[int, int, int, int]] = None  # period, 3 while it settles, TEI, and responses in each period
     due: Tuple[bool, ...] = ()
     units: List[Tuple[int, bool, bytes]] = field(default_factory=list)
     turn: int = 0
@@ -242,13 +242,14 @@ def teis_of_others(r: Reader, config: Config, line: Line) -> None:
     line.remembered = r.list(4, lambda: (r.number(2), tei_on(r, line)), "assignments")
     for members in zip(*line.remembered):
         r.need(len(set(members)) == len(members), "an assignment is remembered twice")
-    period = r.number(1, 0, 2, "a period")
+    period = r.number(1, 0, 3, "a period")
     if period:
-        line.check = period, tei_on(r, line), r.number(1, 0, 1, "the responses"), r.number(1, 0, 1, "the responses")
+        tei, most = tei_on(r, line), int(period < 3)
+        line.check = period, tei, r.number(1, 0, most, "the responses"), r.number(1, 0, most, "the responses")
     line.due = r.bits(config.terminals)
     due = [tei for tei, is_due in zip(line.places, line.due) if is_due]
     r.need(not due or line.check is not None and not {None, line.check[1]} & set(due), "a check is due that can't be")
-    r.need(not (line.remembered if config.annex_b else due), "it is of the other reading of the tables")
+    r.need(not (line.remembered if config.annex_b else due or period == 3), "it is of the other reading of the tables")
     line.messages = r.list(4, lambda: message_of(r), "messages")
     r.need(all(it.type in (2, 3) or it.type in (4, 6) and it.ri == 0 for it in line.messages), "a message is none of the network's")
 

@@ -11,6 +11,7 @@ from typing import NamedTuple
 
 from .crates import ROOT, sum_of
 from .folded import AHEAD, folded
+from .multiples import marked
 from .static_library import NotBuilt
 from .wasm import FEATURES, run, versions
 
@@ -46,6 +47,7 @@ def split(wasm: str, folder: str) -> str:
 
 def machine(wasm: str, folder: str) -> Machine:
     run(["wasm2c", "-n", "machine", split(wasm, folder), "-o", "machine.c"], folder)
+    run(["wasm2wat", "split.wasm", "-o", "machine.wat"], folder)
     with open(f"{folder}/machine.h", encoding="ascii") as file:
         fields = part(file.read(), r"^typedef struct Z_machine_instance_t \{\n(.*?)  wasm_rt_memory_t w2c_memory;\n\}", "an instance")
     with open(f"{folder}/machine.c", encoding="ascii") as file:
@@ -54,8 +56,11 @@ def machine(wasm: str, folder: str) -> Machine:
     base = part(body, r"instance->w2c___heap_base = (\d+)ull;", "where the heap begins")
     pages = part(body, r"wasm_rt_allocate_memory\(&instance->w2c_memory, (\d+), \d+\);", "pages of memory")
     body = body.replace(part(body, r"^(static void init_data_instances\([^)]*\) \{\n\}\n)", "data that are put in later"), "")
+    with open(f"{folder}/machine.wat", encoding="utf-8") as file:
+        body = marked(body, file.read())
     functions = folded(plain(body)).replace("instance->", "OWN(instance)->")
-    return Machine(plain(fields), functions, int(base), int(pages))
+    # The stack's place is inside of it.
+    return Machine(plain(fields).replace("u64 w2c_g0;", "place w2c_g0;"), functions, int(base), int(pages))
 
 
 def plain(body: str) -> str:

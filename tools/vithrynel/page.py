@@ -36,7 +36,7 @@ def source(name: str) -> str:
 
 
 def below(name: str, found: List[str]) -> List[str]:
-    """A module and those that it imports, each behind those that it imports itself."""
+    """A module and those that it imports, each after those that it imports itself."""
     for it in IMPORT.findall(source(name)):
         if it not in found:
             below(it, found)

@@ -11,8 +11,10 @@ import tempfile
 from typing import Dict, List, Tuple
 
 from .checked import tag, tests, wrapped
+from .depth import deepest
 from .header import Field, Function, Parameter, Struct, functions, numbers, structs
 from .machine import AHEAD, WIDEST, asked_for, comment, content
+from .static_library import NotBuilt
 from .united import PROGRAM_STACK, STACK, United, united
 from .wasm import put
 
@@ -35,6 +37,9 @@ IN_OUT = {("lapd_next_link", "place")}
 MOST = {"lapd_frame": numbers()["LAPD_MOST_FRAME"] + 1, "lapd_request": numbers()["LAPD_MOST_OCTETS"] + 1,
         "lapd_next_frame": numbers()["LAPD_MOST_FRAME"], "lapd_begun_frame": numbers()["LAPD_MOST_FRAME"],
         "lapd_heard_frame": numbers()["LAPD_MOST_FRAME"]}
+# What is not there with -DLAPD_NO_IMAGES; and with -DLAPD_NO_OCTETS, of what is not in card.c.
+IMAGES = r"_save$|_restore$"
+OCTETS = ("lapd_octet", "lapd_pull")
 # Octets of an exchange that are handed over at a time, and the room for a report.
 RUN, REPORT = 256, -(-structs()["lapd_report"].octets // 16) * 16
 WIDTH = {"uint8_t": 8, "uint16_t": 16, "uint32_t": 32, "uint64_t": 64, "size_t": 64}
@@ -52,7 +57,8 @@ def moved(kind: str, at: str, ahead: int, value: str, is_put: bool) -> str:
     width = WIDTH[kind]
     if width == 8:
         return f"instance[{to}] = {value};" if is_put else f"{value} = instance[{to}];"
-    assert ahead < AHEAD
+    if ahead >= AHEAD:
+        at, ahead = to, 0
     cast = "u32" if width < 64 else "u64"
     return f"{STORES[width]}(AT({at}, {ahead}), ({cast}){value});" if is_put else f"{value} = ({kind}){LOADS[width]}(AT({at}, {ahead}));"
 
@@ -172,7 +178,7 @@ class Call:
                 self.after.append(f"get_{it.kind}(instance, {at}, {it.name});")
 
     def buffer(self, it: Parameter, rest: List[Parameter]) -> None:
-        """Octets with their length behind them; where they are written, the next pointer tells how many were."""
+        """Octets with their length after them; where they are written, the next pointer tells how many were."""
         length, most = rest.pop(0).name, MOST[self.of.name]
         at = self.room(most)
         self.words += [at, f"at_most({length}, {most})"]
@@ -196,7 +202,8 @@ class Call:
         if after:
             rows += ["if (status == LAPD_OK) {", *(f"    {row}" for row in after), "}"]
         rows.append("return status;")
-        return f"{self.of.result} {self.of.name}({words}) {{\n" + "".join(f"    {row}\n" for row in rows) + "}\n"
+        text = f"{self.of.result} {self.of.name}({words}) {{\n" + "".join(f"    {row}\n" for row in rows) + "}\n"
+        return f"#ifndef LAPD_NO_OCTETS\n{text}#endif\n" if self.of.name in OCTETS else text
 
 
 def exports() -> List[str]:
@@ -228,14 +235,30 @@ def calls() -> List["Call"]:
 
 
 def other_octets() -> int:
-    """So many octets take what one call hands over beside the handle and a report; an exchange takes two runs and its steps."""
-    return max(16 + 2 * RUN, *(it.octets for it in calls()))
+    """So many octets take what one call hands over beside the handle and its report; an exchange takes two runs and its steps."""
+    return max(16 + 2 * RUN, *(it.octets for it in calls() if "REPORT" in it.words))
 
 
-def own_octets(made: United) -> int:
-    """So many octets a machine takes beside its heap: its data and stack, what is handed over, what is behind it, and 64 of
+def report_octets() -> int:
+    """The room for a report, and for what a call hands over that has none, as far as that is more."""
+    return max(REPORT, *(it.octets - other_octets() for it in calls()))
+
+
+def stack(made: United, with_images: bool = True) -> int:
+    """The octets of a machine's stack: what the deepest call takes. An access of it goes so far back that none may lie nearer to
+    the memory's beginning than AHEAD (folded.py)."""
+    code = f"{made.both}\n{made.library}"
+    names = [it for it in exports() if f"w2c_{it}(" in code and (with_images or not re.search(IMAGES, it))]
+    octets = -(-(deepest(code, names) + AHEAD) // 16) * 16
+    if octets > STACK:
+        raise NotBuilt(f"united.py links a stack of {STACK} octets, and calls take {octets}")
+    return octets
+
+
+def own_octets(made: United, with_images: bool = True) -> int:
+    """So many octets a machine takes beside its heap: its stack and data, what is handed over, what follows it, and 64 of
     its own."""
-    return made.places + 16 + REPORT + other_octets() + AHEAD + WIDEST + 64
+    return stack(made, with_images) + made.kept + made.data + 16 + report_octets() + other_octets() + AHEAD + WIDEST + 64
 
 
 def machines(made: United) -> str:
@@ -246,10 +269,20 @@ def machines(made: United) -> str:
 /* A card or a clock: its memory. Before it lie WebAssembly's globals, and how many octets it has; and the last how many are for an
  * image. */
 typedef u8 machine;
-typedef struct {{
+typedef union {{
+struct {{
 {made.fields}u32 octets, image;
+}} of;
+u64 words[3]; /* So the memory begins at a multiple of 8 on each processor. */
 }} own;
-enum {{ STACK = {STACK} }};
+typedef char own_is_as_long_as_its_words[sizeof(own) == 24 ? 1 : -1];
+#ifdef LAPD_NO_IMAGES
+enum {{ STACK = {stack(made, False)} }};
+#else
+enum {{ STACK = {stack(made)} }};
+#endif
+/* Where data lie that change. Before them lie constants of which an address is taken, and no tables. */
+enum {{ DATA = STACK + {made.kept} }};
 {content("c/portable/fixed.c")}
 #else
 /* The program: WebAssembly's globals and memory. */
@@ -257,7 +290,7 @@ typedef struct {{
 {made.fields}u64 octets, room;
 u8 *data;
 }} machine;
-enum {{ STACK = {PROGRAM_STACK}, PAGES = {made.pages} }};
+enum {{ STACK = {PROGRAM_STACK}, DATA = STACK + {made.constants}, PAGES = {made.pages} }};
 {content("c/portable/growing.c")}
 #endif
 """
@@ -272,7 +305,7 @@ def portable(made: United, head: str) -> str:
         content("c/portable/head.c"), machines(made), loads,
         "/* ---- What wasm2c made of the proved library: what lapdsim.c has, too ---- */\n", made.begin, made.both,
         "#ifndef LAPD_SIMULATOR\n/* ---- And what it has not ---- */\n", made.library,
-        f"enum {{ PLACES = {made.places}, REPORT_OCTETS = {REPORT}, OTHER_OCTETS = {other_octets()}, RUN = {RUN} }};\n",
+        f"enum {{ PLACES = DATA + {made.data}, REPORT_OCTETS = {report_octets()}, OTHER_OCTETS = {other_octets()}, RUN = {RUN} }};\n",
         content("c/portable/handed.c"), movers, content("c/portable/card.c"), *(it.text() for it in calls()), "#endif\n"])
 
 
@@ -301,7 +334,11 @@ run one at a time. Or it says -DLAPD_OWN_MEMORY: they lie in memory of its own r
 lapd_memory.h declares. A card takes lapd_card_octets(&config) octets and {own} more (one of frames, or with its own
 timers, as many and what lapd_card_octets_frames, lapd_card_octets_timed or lapd_card_octets_frames_timed tells), and a
 clock lapd_clock_octets(&config) and {own} more. Besides, each takes room for its image, lapd_image_octets(&config) octets
-at most; with -DLAPD_NO_IMAGES it does not, and is not saved.
+at most. With -DLAPD_NO_IMAGES it does not, and is not saved: {least} octets then stand for the {own}.
+
+A card of octets, its codec and tables are left out by -DLAPD_NO_OCTETS, and lapd_frame_text by -DLAPD_NO_TEXT; or by a
+linker that is asked to (-ffunction-sections, -Wl,--gc-sections). With -ffreestanding no header of a C library is asked for:
+the program has abort, memcpy, memmove and memset, and is linked with the compiler's own helpers (-lgcc).
 
 No access leaves a card's block: one that would ends the program by abort(), which no run has shown; -DLAPD_UNTESTED
 leaves that test out. A compiler that does not tell the order of octets as GCC does wants -DLAPD_BIG_END_FIRST=0 or 1."""
@@ -309,7 +346,7 @@ leaves that test out. A compiler that does not tell the order of octets as GCC d
 
 def card_of(made: United) -> Tuple[str, str]:
     """lapd.c, and what is to be said of its memory."""
-    return portable(made, comment(COMMENT, made.wasm)), MEMORY.format(own=own_octets(made))
+    return portable(made, comment(COMMENT, made.wasm)), MEMORY.format(own=own_octets(made), least=own_octets(made, False))
 
 
 def written(to: str, over_gate: bool = False) -> None:

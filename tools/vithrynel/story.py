@@ -21,7 +21,7 @@ TERMINAL_SIDE = ("exchange", "terminal", "layer 3")
 
 
 class Row(NamedTuple):
-    """A row of a ladder: `head` stands on its arrow, `info` and `meaning` on it or below, `beside` behind a cut one."""
+    """A row of a ladder: `head` stands on its arrow, `info` and `meaning` on it or below, `beside` after a cut one."""
 
     at: int
     kind: str
@@ -164,7 +164,7 @@ def stories(steps: Iterable[Step], with_comments: bool = True) -> Dict[int, List
 
 
 def joined(rows: List[Row]) -> List[Row]:
-    """The rows, where the cause of a drop stands behind what was dropped."""
+    """The rows, where the cause of a drop stands after what was dropped."""
     out: List[Row] = []
     for row in rows:
         if row.kind == BESIDE and row.head.startswith("dropped ") and out and out[-1].kind == CUT and not out[-1].beside:

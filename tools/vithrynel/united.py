@@ -10,15 +10,16 @@ import os
 import re
 from typing import Dict, List, NamedTuple, Set, Tuple
 
+from .constants import PLACE, arrays, in_place, kept, sections
 from .machine import Machine, machine
 from .shared import AS_IT_IS, borrowing, functions_of, in_section, lending, lent, optimized, printed, write
 from .static_library import NotBuilt, built, module
-from .wasm import for_wasm, linked, lowered, memory_for_wasm, need
+from .wasm import MAP, for_wasm, linked, lowered, memory_for_wasm, need
 
 LIBRARY, PROGRAM = "lapd_c", "lapdsim"
-# Octets of stack in the memory of a card, where C's own has the rest: by their frames calls take 6,368 at most. And in that of the
-# simulator: a script is played with pages of 4,096 octets on it. What takes more ends the program, as the stack lies at the
-# memory's beginning.
+# Octets of stack in the memory that is linked for a card, where C's own has the rest: portable.py gives a card as many as calls take.
+# And in that of the simulator: a script is played with pages of 4,096 octets on it. What takes more ends the program, as the stack
+# lies at the memory's beginning.
 STACK, PROGRAM_STACK = 9216, 1 << 18
 # All that is written of C's functions: their prototypes, themselves, arrays of data, and what sets a machine up.
 PROTOTYPE = re.compile(r"^static \w+ (w2c_\w+)\([^)]*\);$", re.M)
@@ -31,15 +32,18 @@ MEMORIES = re.compile(r"^static void init_memories\(machine \*instance\) \{\nwas
 
 class United(NamedTuple):
     """Parts of C: what an instance has of globals, and how they begin, with the library's data; the functions of both, of the library
-    alone, and of the simulator alone, each with their prototypes; and the simulator's own data. How many octets of a card's memory its
-    stack and data take, and how many pages of memory the simulator has at first; and the module that it was made of."""
+    alone, and of the simulator alone, each with their prototypes; and the simulator's own data. How many octets the library's constants
+    have, how many of them a card has in its memory, and how many octets of data that change; how many pages of memory the simulator has
+    at first; and the module that it was made of."""
     fields: str
     begin: str
     both: str
     library: str
     simulator: str
     simulators_data: str
-    places: int
+    constants: int
+    kept: int
+    data: int
     pages: int
     wasm: str
 
@@ -109,36 +113,63 @@ class Pieces:
         of = [it for it in self.functions if it in names]
         return "".join(f"{self.prototypes[it]}\n" for it in of) + "\n" + "\n".join(self.functions[it] for it in of)
 
+    def octets(self, name: str) -> bytes:
+        return bytes(int(it, 16) for it in re.findall(r"\b0x(\w\w)\b", self.data[name]))
+
     def words(self, name: str) -> List[int]:
         """These data as numbers of 64 bits: what lies in them of places is one, each."""
-        octets = bytes(int(it, 16) for it in re.findall(r"\b0x(\w\w)\b", self.data[name]))
+        octets = self.octets(name)
         return [int.from_bytes(octets[at:at + 8], "little") for at in range(0, len(octets), 8)]
 
-    def init(self, name: str, those: List[str], other: "Pieces") -> str:
-        """A function that loads these data, and puts the places that lie in them: they are others in the other."""
+    def loading(self, those: List[str], other: "Pieces") -> str:
+        """Lines that load these data, and put the places that lie in them: they are others in the other."""
         rows = []
         for it in those:
             rows.append(self.loads[it])
             for at, (word, more) in enumerate(zip(self.words(it), other.words(it))):
                 if word != more:
                     rows.append(f"i64_store(AT({self.at[it] + 8 * at}ull, 0), {word}ull);")
-        return "\n".join([f"static void {name}(machine *instance) {{\nFUNC_PROLOGUE;", *rows, "}\n"])
+        return "\n".join(rows)
 
 
-def divided(small: Machine, large: Machine, exports: Set[str], wasm: str) -> United:
-    """The module with the stack of a card, and with that of the simulator, which has all of its places as they are in that."""
+def init(name: str, *loading: str) -> str:
+    """The function that sets up memory."""
+    return "\n".join([f"static void {name}(machine *instance) {{", "FUNC_PROLOGUE;", *loading, "}\n"])
+
+
+def loading_tables(ends: int, starts: List[int]) -> str:
+    """Lines that load constants from the first place on, where they end."""
+    return "\n".join(f"LOAD_DATA(instance, (STACK + {at}u), table_{at}, {end - at});" for at, end in zip(starts, [*starts[1:], ends]))
+
+
+def placed_in_memory(text: str, tables: List[int], data: int, ends: int) -> str:
+    """Code in which tables are read where they stand, and data that change lie from DATA on."""
+    return re.sub(PLACE, lambda it: it[0].replace(f"STACK + {it[1]}", f"DATA + {int(it[1]) - data}") if data <= int(it[1]) < ends else it[0],
+                  in_place(text, tables, data))
+
+
+def divided(small: Machine, large: Machine, exports: Set[str], starts: List[int], wasm: str) -> United:
+    """The module with the stack of a card, and with that of the simulator, which has all of its places as they are in that. The
+    library's constants begin at these places."""
     one, other = Pieces(small.functions), Pieces(large.functions)
     library = reached(one.functions, {f"w2c_{it}" for it in exports} & set(one.functions))
     simulator = reached(one.functions, {"w2c_main"})
-    *datas, last = sorted(one.data, key=one.at.get)
-    begin = "\n".join([*(one.data[it] for it in datas), placed(one.globals, other.globals),
-                       placed(one.init("init_memories", datas, other), other.init("init_memories", datas, one))])
-    both, own = (placed(one.of(it), other.of(it)) for it in (library & simulator, library - simulator))
-    ends, heap = one.at[last] - STACK, small.heap_base - STACK
-    if any(ends <= int(it) != heap for it in re.findall(r"\(STACK \+ (\d+)", both + own)):
+    constants, *changing, last = sorted(one.data, key=one.at.get)
+    parts = [placed(one.of(it), other.of(it)) for it in (library & simulator, library - simulator)]
+    data, ends, heap = one.at[changing[0]] - STACK, one.at[last] - STACK, small.heap_base - STACK
+    if any(ends <= int(it) != heap for it in re.findall(PLACE, "".join(parts))):
         raise NotBuilt("the library reads data of the simulator")
-    rest = f"{other.data[last]}\n{other.init('init_rest', [last], other)}"
-    return United(small.fields, begin, both, own, other.of(simulator - library), rest, -(-one.at[last] // 16) * 16, large.pages, wasm)
+    if one.words(constants) != other.words(constants):
+        raise NotBuilt("a constant of the library is an address")
+    begin = kept("".join(parts), starts, data)
+    tables, octets = [it for it in starts if begin <= it < data], one.octets(constants)
+    loading = [loading_tables(begin, [0]), "#ifdef LAPD_SIMULATOR", loading_tables(len(octets), tables), "#endif",
+               placed(one.loading(changing, other), other.loading(changing, one))]
+    parts = ["\n".join([arrays(octets, [0, *tables]), *(one.data[it] for it in changing), placed(one.globals, other.globals),
+                        init("init_memories", *loading)]), *parts]
+    rest = f"{other.data[last]}\n{init('init_rest', other.loading([last], other))}"
+    return United(small.fields, *(placed_in_memory(it, tables, data, ends) for it in parts), other.of(simulator - library), rest,
+                  data, -(-begin // 16) * 16, -(-(ends - data) // 16) * 16, large.pages, wasm)
 
 
 def united(exports: List[str], folder: str, over_gate: bool) -> United:
@@ -148,4 +179,6 @@ def united(exports: List[str], folder: str, over_gate: bool) -> United:
         built(name, over_gate=over_gate, with_module=True)
     those = objects(folder)
     (small, wasm), (large, _) = (module_of(those, [*exports, "main"], folder, it) for it in (STACK, PROGRAM_STACK))
-    return divided(small, large, set(exports), wasm)
+    with open(f"{folder}/{STACK}/{MAP}", encoding="utf-8") as file:
+        starts = sections(file.read(), STACK)
+    return divided(small, large, set(exports), starts, wasm)

@@ -20,6 +20,8 @@ from .static_library import NotBuilt, built, kit, module
 # What a module exports beside its functions: a place for what a caller hands over.
 OWN = ("module_take", "module_give")
 STACK = 65536
+# What the linker tells of where all lies.
+MAP = "map"
 # The features that every engine has had for years, and wabt's wasm2c takes.
 FEATURES = ("bulk-memory", "sign-ext", "mutable-globals")
 WITHOUT = ("multivalue", "reference-types", "nontrapping-fptoint", "simd128", "tail-call", "extended-const")
@@ -29,7 +31,7 @@ SECTIONS = ["-ffunction-sections", "-fdata-sections"]
 # What clang says of a target that it was built without.
 NO_TARGET = "unable to create target"
 # Programs that are not the kit's, and Debian's packages of them.
-PACKAGES = {"wasm-opt": "binaryen", "wasm2c": "wabt"}
+PACKAGES = {"wasm-opt": "binaryen", "wasm2c": "wabt", "wasm2wat": "wabt"}
 
 
 def need(*programs: str) -> None:
@@ -75,7 +77,7 @@ def linked(objects: List[str], exports: Iterable[str], folder: str, stack: int =
     """The module, with addresses of 64 bits. The linker is told by its name for what it links."""
     linker = f"{folder}/wasm-ld"
     os.symlink(clang(), linker)
-    words = ["-mwasm64", "--no-entry", "--strip-all", "-z", f"stack-size={stack}", *["--allow-undefined"] * has_imports]
+    words = ["-mwasm64", "--no-entry", "--strip-all", "-z", f"stack-size={stack}", f"-Map={MAP}", *["--allow-undefined"] * has_imports]
     run([linker, *words, *(f"--export={it}" for it in exports), *objects, "-o", "wide.wasm"], folder)
     return f"{folder}/wide.wasm"
 

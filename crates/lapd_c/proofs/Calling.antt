@@ -125,7 +125,7 @@ module _ (asked : Asked) (old new : CardHandle) (result : ℕ) (r : PlainReport)
   abbrev pub FitsAt : Machine → Type 0
   FitsAt m = Fits m (asked.event (card_in m))
 
-  pub is_called : (before : PlainReport) → IsCallOf asked.cards asked.line old new result before r → WithLine asked.cards asked.line old FitsAt → (result ≢ status.ok → Unchanged asked.line (asked.waits result) old new)
+  pub is_called : (before : PlainReport) → IsCallOf asked.cards asked.line asked.names old new result before r → WithLine asked.cards asked.line old FitsAt → (result ≢ status.ok → Unchanged asked.line (asked.waits result) old new)
       → Called asked old new result before r
   is_called before call fits unchanged = let of = each asked.cards asked.line old FitsAt in record {
     call = call;

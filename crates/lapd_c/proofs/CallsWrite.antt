@@ -1,12 +1,14 @@
 -- What calls write, and what is there after a start.
-use Rattle.std.specs.Prelude.{◌≢◌, replicate, get_or, cond, is_some, option_map, IfSome, zero, suc}
+use Rattle.std.specs.Option.{unwrap_or}
+use Rattle.std.proofs.lemmas.Bool.{ne_eqb}
+use Rattle.std.specs.Prelude.{◌≢◌, ◌⊎◌, ◌==◌, ◌&&◌, Bool, true, false, replicate, get_or, cond, is_some, option_map, IfSome, zero, suc}
 use Rattle.std.proofs.lemmas.Option.{none-some, same_Some}
 use Rattle.lapd_clock.specs.Timer.{first_out_of_range}
 use Rattle.lapd_clock.specs.Timers.{Timers, with_lengths}
 use Rattle.lapd_c.specs.Clocks.{clock_of}
 use Rattle.lapd_c.specs.Cards.{without_marks}
 use Rattle.std.proofs.Common.{⊎_elim}
-use Rattle.lapd_c.proofs.Vocabulary.{◌≡◌, ◌≤◌, ◌<◌, ◌++◌, ℕ, Option, None, Some, List, length, drop, inl, inr, refl, sym, ap, subst, ◌∙◌, false≢true, Machine, card_in}
+use Rattle.lapd_c.proofs.Vocabulary.{◌≡◌, ◌≤◌, ◌<◌, ◌++◌, ℕ, Option, None, Some, List, length, drop, inl, inr, refl, sym, ap, subst, ◌∙◌, false≢true, arith, Machine, card_in}
 use Rattle.std.proofs.lemmas.List.{length-replicate, take-append-drop}
 use Rattle.lapd_count.specs.Counters.{count, none_counted, place, value_in}
 use Rattle.lapd_count.specs.declared.counter.Counter.{Counter}
@@ -20,7 +22,7 @@ use Rattle.lapd_card.specs.declared.kinds.AnyCard.TheVariants.{Octets, Frames}
 use Rattle.model_card.specs.declared.kinds.CardKind.{CardKind}
 use Rattle.model_card.specs.Card.{Card}
 use Rattle.model_line.specs.declared.config.Config.{Config}
-use Rattle.lapd_c.specs.CallsWrite.{CallsWrite, HasNothing}
+use Rattle.lapd_c.specs.CallsWrite.{CallsWrite, HasNothing, NamesGivenUp}
 use Rattle.lapd_c.specs.Answers.{octet_of}
 use Rattle.lapd_c.specs.Slots.{HeldCard}
 use Rattle.lapd_c.specs.Cards.{card_of, marks_held, served_card, StandsIn}
@@ -32,7 +34,9 @@ use Rattle.lapd_c.specs.Frames.{IsGiven, next_at}
 use Rattle.lapd_c.specs.Waits.{Waits}
 use Rattle.lapd_c.specs.FallsDue.{FellDue}
 use Rattle.lapd_c.specs.Starts.{IsStart}
-use Rattle.lapd_c.specs.Timers.{lengths_in}
+use Rattle.lapd_c.specs.Reports.{first_tei, given_up_tei, notes_in}
+use Rattle.lapd_c.specs.Timers.{lengths_fault}
+use Rattle.lapd_c.specs.declared.plain.reports.PlainReport.{PlainReport}
 use Rattle.lapd_c.specs.declared.card.CardHandle.{CardHandle}
 use Rattle.lapd_c.specs.declared.plain.config.PlainConfig.{PlainConfig}
 use Rattle.lapd_c.specs.declared.plain.timers.PlainLengths.{PlainLengths}
@@ -135,11 +139,31 @@ no_start held config old new result s bad = none_begins {C = ℕ} (new ≡ old) 
     (λ none right _. ⊎_elim (λ ok. absurd (bad ok)) s.no_memory (s.otherwise none right))
 
 no_timed_start : (kind : CardKind) (config : PlainConfig) (lengths : PlainLengths) (old new : CardHandle) (result : ℕ) → IsTimedStart kind config lengths old new result → result ≢ 0 → new ≡ old
-no_timed_start kind config lengths old new result s bad = none_begins (new ≡ old) (card_of old) (config_fault config) (first_out_of_range (lengths_in lengths))
+no_timed_start kind config lengths old new result s bad = none_begins (new ≡ old) (card_of old) (config_fault config) (lengths_fault lengths)
     (λ x is. (there (λ _. (result ≡ 13) × (new ≡ old)) (card_of old) x s.second is).1)
     (λ wrong none is. (there (λ wrong. (result ≡ wrong) × (new ≡ old)) (config_fault config) wrong (s.fault none) is).1)
-    (λ x none right is. (there (λ _. (result ≡ 21) × (new ≡ old)) (first_out_of_range (lengths_in lengths)) x (s.wrong_time none right) is).1)
+    (λ wrong none right is. (there (λ wrong. (result ≡ wrong) × (new ≡ old)) (lengths_fault lengths) wrong (s.wrong_lengths none right) is).1)
     (λ none right short. ⊎_elim (λ ok. absurd (bad ok)) (λ no_memory. no_memory.1) (s.otherwise none right short))
+
+-- whose contents are given up
+and-false : (b : Bool) → (b && false) ≡ false
+and-false true = refl
+and-false false = refl
+
+both-zero : (call packet : ℕ) → (0 < call) ⊎ (0 < packet) → ((call == 0) && (packet == 0)) ≡ false
+both-zero call packet (inl some) = ap (λ (b : Bool). b && (packet == 0)) (ne_eqb call 0 (λ e. omega (arith, some, e)))
+both-zero call packet (inr some) =
+    ap (λ (b : Bool). (call == 0) && b) (ne_eqb packet 0 (λ e. omega (arith, some, e))) ∙ and-false (call == 0)
+
+names_given_up : (names : Option ℕ) (r : PlainReport) → r.given_up_tei ≡ given_up_tei names r → NamesGivenUp names r
+names_given_up names r is = record {
+  none = λ call packet. is ∙ ap (λ n. cond ((n == 0) && (r.given_up_16 == 0)) 255 (unwrap_or names (first_tei (notes_in r)))) call
+      ∙ ap (λ n. cond (n == 0) 255 (unwrap_or names (first_tei (notes_in r)))) packet;
+  named = λ tei named some. is ∙ ap (λ b. cond b 255 (unwrap_or names (first_tei (notes_in r)))) (both-zero r.given_up r.given_up_16 some)
+      ∙ ap (λ o. unwrap_or o (first_tei (notes_in r))) named;
+  noted = λ note notes named noted some. is ∙ ap (λ b. cond b 255 (unwrap_or names (first_tei (notes_in r)))) (both-zero r.given_up r.given_up_16 some)
+      ∙ ap (λ o. unwrap_or o (first_tei (notes_in r))) named ∙ ap first_tei noted;
+}
 
 -- if something is out of range
 out_of_range : {A : Type 0} (o : Option A) (c d : Timers) → IfSome o (λ _. (cond {A = ℕ} (is_some o) 21 0 ≡ 21) × (cond (is_some o) c d ≡ c))
@@ -153,7 +177,9 @@ calls_write_by = record {
       frame_written long out out' given (there (λ x. IsGiven x out out' long) (next_at line m) given (said m stands within room) (ap given_in is));
   named = λ asked old new result before r m called stands within ok.
       let it = called.call in ((it.reopened m stands within ok).of_line, it.expired ok);
-  no_timer = λ cards line result old new before r called. called.expired;
+  no_timer = λ cards line result names old new before r called. called.expired;
+  given_up = λ cards line result names old new before r called ok. (names_given_up names r (called.given_up ok), called.tail ok);
+  fallen_given_up = λ now number result timer m c old new r fell. (names_given_up None r fell.given_up, fell.tail);
   timed = λ asked old new result before r called. called.call.timed;
   refused = λ now result old new m c said stands timers early. said m c stands timers early;
   fell_due = λ now result x old new m c r said it is.
@@ -178,7 +204,7 @@ calls_write_by = record {
   wrong_start = λ kind config old new result wrong h none is. there (λ wrong. (result ≡ wrong) × (new ≡ old)) (config_fault config) wrong (h.start.fault none) is;
   second_timed_start = λ kind config lengths old new result kept h is. there (λ _. (result ≡ 13) × (new ≡ old)) (card_of old) kept h.second is;
   wrong_timed_start = λ kind config lengths old new result wrong h none is. there (λ wrong. (result ≡ wrong) × (new ≡ old)) (config_fault config) wrong (h.fault none) is;
-  wrong_lengths = λ kind config lengths old new result h. h.wrong_time;
+  wrong_lengths = λ kind config lengths old new result h. h.wrong_lengths;
   second_clock = λ config old new result clock h is. there (λ _. (result ≡ 13) × (new ≡ old)) (clock_of old) clock h.start.second is;
   wrong_clock = λ config old new result wrong h none is. there (λ wrong. (result ≡ wrong) × (new ≡ old)) (config_fault config) wrong (h.start.fault none) is;
   card_ends = λ old new result kept h is. there (λ _. (result ≡ 0) × (card_of new ≡ None)) (card_of old) kept h.freed is;

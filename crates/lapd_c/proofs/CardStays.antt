@@ -7,9 +7,7 @@ use Rattle.std.proofs.lemmas.List.FromFn.{get_or-map-range_with_len, length-map-
 use Rattle.lapd_card.specs.Image.{begun_as}
 use Rattle.lapd_card.specs.Kinds as any
 use Rattle.lapd_card.specs.Kinds.{counters_of, kind_of}
-use Rattle.lapd_clock.specs.Timer.{first_out_of_range, Lengths}
 use Rattle.lapd_clock.specs.Timers.{Expiry}
-use Rattle.lapd_clock.specs.declared.fault.LengthFault.{LengthFault}
 use Rattle.lapd_frame.specs.declared.timers.Order.{Order}
 use Rattle.lapd_timed.specs.Image.{is_octets, kind_in, marks_in, HasRows, MayBeSaved}
 use Rattle.lapd_timed.specs.Marked.{moment_in}
@@ -42,7 +40,7 @@ use Rattle.lapd_c.specs.Kept.{CarryOut, CarryOutAll, ChangesStandIn, TimersStand
 use Rattle.lapd_c.specs.Saves.{HandleHolds, HandleReads, IsCardRestore, IsHeldAs}
 use Rattle.lapd_c.specs.SavesServed.{CardMayBeSaved, CardStays}
 use Rattle.lapd_c.specs.Statuses.{refusal_status}
-use Rattle.lapd_c.specs.Timers.{lengths_in}
+use Rattle.lapd_c.specs.Timers.{lengths_fault, lengths_in}
 use Rattle.lapd_c.specs.Waiting.{card_waits}
 use Rattle.lapd_c.specs.Wanted.{of_octets, OctetsWithLine}
 use Rattle.lapd_c.proofs.BlockMade.{blocks_are_made}
@@ -233,7 +231,7 @@ all_carried events m (Some t) n h b =
     (stand_in n there.card.card there.clock (marks_after timed_octets.octets inside (happen events) (record { card = m; clock = b.clock }) b.marks)
     (h.timers b.clock b.stand) (h.noted b.clock b.marks b.stand b.noted))
 
-module _ (line from to result : ℕ) (taken given given' : List ℕ) (old new : CardHandle) (before r : PlainReport) (call : IsCallOf of_octets line old new result before r)
+module _ (line from to result : ℕ) (taken given given' : List ℕ) (old new : CardHandle) (before r : PlainReport) (call : IsCallOf of_octets line None old new result before r)
     (kept : result ≢ 0 → card_of new ≡ card_of old) (short : OctetsWithLine line old (λ m. is_exchange taken given from ≡ false → result ≡ 19))
     (whole : OctetsWithLine line old (λ m. is_exchange taken given from ≡ true → Exchanges line taken from m old new result given given' to r)) where
   exchanged : (m : OctetCard) → HandleStands old (with_ports m) → Beside (timers_of old) m.card → Exchanges line taken from m old new result given given' to r → CardMayBeSaved new
@@ -297,17 +295,17 @@ module _ (now result : ℕ) (old new : CardHandle) (before r : PlainReport) (cal
 
 -- ---- other lengths
 
-module _ (l : Lengths) (result : ℕ) (old new : CardHandle) (call : IsTimersCall old new result)
-    (wrong : is_timed old ≡ true → IfSome (first_out_of_range l) (λ _. (result ≡ 21) × (card_of new ≡ card_of old)))
-    (set : first_out_of_range l ≡ None → (m : Card) (c : Clock) → TimersStandIn (timers_of old) m c → (result ≡ 0) × TimersStandIn (timers_of new) m (with_lengths l c))
+module _ (l : PlainLengths) (result : ℕ) (old new : CardHandle) (call : IsTimersCall old new result)
+    (wrong : is_timed old ≡ true → IfSome (lengths_fault l) (λ wrong. (result ≡ wrong) × (card_of new ≡ card_of old)))
+    (set : lengths_fault l ≡ None → (m : Card) (c : Clock) → TimersStandIn (timers_of old) m c → (result ≡ 0) × TimersStandIn (timers_of new) m (with_lengths (lengths_in l) c))
     (may : CardMayBeSaved old) where
-  with_them : (t : CardTimers) → timers_of old ≡ Some t → AreTimed t (card_in may.machine) → (o : Option LengthFault) → first_out_of_range l ≡ o → CardMayBeSaved new
+  with_them : (t : CardTimers) → timers_of old ≡ Some t → AreTimed t (card_in may.machine) → (o : Option ℕ) → lengths_fault l ≡ o → CardMayBeSaved new
   with_them t is b (Some fault) out =
-      unchanged_stays old new may (subst (λ (o : Option LengthFault). IfSome o (λ _. (result ≡ 21) × (card_of new ≡ card_of old))) out (wrong (ap (λ (o : Option CardTimers). is_some o) is))).1
+      unchanged_stays old new may (subst (λ (o : Option ℕ). IfSome o (λ wrong. (result ≡ wrong) × (card_of new ≡ card_of old))) out (wrong (ap (λ (o : Option CardTimers). is_some o) is))).1
   with_them t is b None out =
       let m = card_in may.machine in
       made new may.machine ((same_held (card_of old) (card_of new) call.card).0 may.machine may.stands)
-      (stand_in (timers_of new) m (with_lengths l b.clock) b.marks (set out m b.clock (subst (λ o. TimersStandIn o m b.clock) (sym is) b.stand)).1
+      (stand_in (timers_of new) m (with_lengths (lengths_in l) b.clock) b.marks (set out m b.clock (subst (λ o. TimersStandIn o m b.clock) (sym is) b.stand)).1
       (call.noted m b.marks (subst (λ o. ChangesStandIn o m b.marks) (sym is) b.noted)))
 
   to_timers : (o : Option CardTimers) → timers_of old ≡ o → Beside o (card_in may.machine) → CardMayBeSaved new
@@ -315,7 +313,7 @@ module _ (l : Lengths) (result : ℕ) (old new : CardHandle) (call : IsTimersCal
     | inl gone ↦ absurd (no_card (card_of old) may.machine may.stands gone)
     | inr same ↦ unchanged_stays old new may same.1
   ]
-  to_timers (Some t) is b = with_them t is b (first_out_of_range l) refl
+  to_timers (Some t) is b = with_them t is b (lengths_fault l) refl
 
   pub lengths_stay : CardMayBeSaved new
   lengths_stay = to_timers (timers_of old) refl (beside old may)

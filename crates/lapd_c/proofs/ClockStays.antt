@@ -25,6 +25,7 @@ use Rattle.lapd_c.specs.Services.{service_in}
 use Rattle.lapd_c.specs.Statuses.{field_status, wrong_order, wrong_tei, wrong_time, wrong_timer}
 use Rattle.lapd_c.specs.Timers.{order_in, order_of_timer, timer_in, timer_of_link, with_tei}
 use Rattle.lapd_c.specs.Config.{config_fault, config_in, reading_fault, side_fault}
+use Rattle.lapd_c.specs.Reserved.{reserve_fault}
 use Rattle.lapd_c.specs.declared.plain.config.PlainConfig.{PlainConfig}
 use Rattle.lapd_clock.specs.declared.fault.LengthFault.{LengthFault}
 use Rattle.model_line.specs.Config.{first_fault}
@@ -216,7 +217,7 @@ no_fault (Some field) others is = absurd (none-some (field_status field) (sym is
 
 pub begun : (config : PlainConfig) → config_fault config ≡ None → IsSaved (idle config.lines config.terminals)
 begun config fits =
-    let ranges = ranges_of (config_in config) (no_fault (first_fault (config_in config)) (option_or (side_fault config) (reading_fault config)) fits) in
+    let ranges = ranges_of (config_in config) (no_fault (first_fault (config_in config)) (option_or (side_fault config) (option_or (reading_fault config) (reserve_fault config.reserved))) fits) in
     let none = All-from_recursion MayBe [] tt in record {
       sound = none_sound standard config.lines (4 * config.terminals + 1) (in_range standard refl);
       of_card = record {

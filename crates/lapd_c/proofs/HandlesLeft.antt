@@ -12,7 +12,7 @@ handles_are_left_by = record {
   given = λ h left. left;
   clock_given = λ h left. record { said = left.started; lines = left.lines };
   call = λ asked old new result before r called. called.call.handle;
-  block = λ cards line result old new before r called. called.handle;
+  block = λ cards line result names old new before r called. called.handle;
   moment = λ old new result before r called. called.handle;
   lengths = λ old new result called. called.handle;
   start = λ kind config old new result s. s.handle;

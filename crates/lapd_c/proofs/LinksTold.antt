@@ -42,6 +42,7 @@ first_by line from to m found h behind =
       left = subst (λ (n : ℕ). from ≤ n) (sym is) h.place;
       before = λ service tei after less. sym (state_turn line tei m service) ∙ h.free (turn service tei) after (subst (λ (n : ℕ). turn service tei < n) is less);
       next = behind ∙ ap (λ (n : ℕ). n + 1) (sym is);
+      tail = refl;
     }
 
 pub links_are_told_by : LinksAreTold

@@ -1,6 +1,6 @@
 -- What numbers mean in C.
-use Rattle.lapd_c.proofs.Vocabulary.{◌≡◌, ◌≤◌, ℕ, Bool, true, false, Option, None, Some, List, Ok, refl, sym, ap, ◌∙◌, arith, and_parts, leb-true, none-some, Service}
-use Rattle.std.specs.Prelude.{Err, not, if◌then◌else◌}
+use Rattle.lapd_c.proofs.Vocabulary.{◌≡◌, ◌≤◌, ℕ, Bool, true, false, Option, None, Some, List, Ok, option_map, option_or, refl, sym, ap, ◌∙◌, arith, and_parts, leb-true, none-some, Service}
+use Rattle.std.specs.Prelude.{Err, IfSome, not, if◌then◌else◌}
 use Rattle.std.proofs.lemmas.Bool.{le-leb, le-ltb}
 use Rattle.lapd_frame.specs.declared.services.Service.TheVariants.{Call, Packet}
 use Rattle.lapd_frame.specs.declared.timers.Order.TheVariants.{Start, Stop}
@@ -13,9 +13,11 @@ use Rattle.lapd_clock.specs.declared.fault.LengthFault.TheVariants as fault
 use Rattle.model_line.specs.Request.{Establish, Release, Data, Unit, Assign, Remove, Check, Disown, AskTei, VerifyTei, SetBusy, ClearBusy, Deactivate, Down}
 use Rattle.lapd_c.specs.Numbers.{AreServed, Asks, IsLength, NumbersAreGiven, noted, number_of, timed}
 use Rattle.lapd_c.specs.Requests.{request_in}
-use Rattle.lapd_c.specs.Statuses.{wrong_tei}
-use Rattle.lapd_c.specs.Timers.{link_in, order_of_timer, timer_of_link}
-use Rattle.lapd_c.proofs.Said.{configurations_are_given_by}
+use Rattle.lapd_c.specs.Reserved.{reserve_fault}
+use Rattle.lapd_c.specs.Statuses.{wrong_tei, wrong_time}
+use Rattle.lapd_c.specs.Timers.{lengths_fault, lengths_in, link_in, order_of_timer, timer_of_link}
+use Rattle.lapd_c.specs.declared.plain.timers.PlainLengths.{PlainLengths}
+use Rattle.lapd_c.proofs.Said.{all_unused, configurations_are_given_by, not_unused}
 use Rattle.lapd_c.proofs.WrongCalls.{order_none, order_timer}
 
 -- a service has the number of its SAPI
@@ -59,6 +61,14 @@ lengths_all : (l : Lengths) → first_out_of_range l ≡ None → AreServed l
 lengths_all l is =
     let all = all_true (is_length l.t200) (is_length l.t203) (is_length l.t201) (is_length l.t202) is in
     (length_refused l.t200 (all.0), length_refused l.t203 (all.1), length_refused l.t201 (all.2), length_refused l.t202 (all.3))
+
+-- what is wrong with them
+wrong_by : (o : Option LengthFault) (others : Option ℕ) → IfSome o (λ _. option_or (option_map (λ _. wrong_time) o) others ≡ Some 21)
+wrong_by None others = tt
+wrong_by (Some length) others = refl
+
+no_length : (p : PlainLengths) → first_out_of_range (lengths_in p) ≡ None → lengths_fault p ≡ reserve_fault p.reserved
+no_length p none = ap (λ (o : Option LengthFault). option_or (option_map (λ _. wrong_time) o) (reserve_fault p.reserved)) none
 
 -- requests
 case_establish : Asks 1 Establish
@@ -179,6 +189,9 @@ numbers_are_given_by = record {
   lengths_set = λ t200 t203 t201 t202. refl;
   lengths_served = λ l h. lengths_in_range l h;
   lengths_refused = λ l is. lengths_all l is;
+  wrong_lengths = λ p. wrong_by (first_out_of_range (lengths_in p)) (reserve_fault p.reserved);
+  used_lengths = λ p place none other. no_length p none ∙ not_unused p.reserved place other;
+  right_lengths = λ p none zeros. no_length p none ∙ all_unused p.reserved zeros;
   configurations = configurations_are_given_by;
   establish = λ s tei. case_establish s tei;
   release = λ s tei. case_release s tei;

@@ -1,6 +1,6 @@
 -- A start of a card or of a clock, and the timers of a card as it begins.
 use Rattle.lapd_c.proofs.Vocabulary.{◌≡◌, ℕ, Result, Ok, IfOk, IfSome, Option, Some, None, refl, sym, ap, arith, subst, ◌∙◌, Config, IsInRange, card_in}
-use Rattle.std.specs.Prelude.{◌⊎◌, Err, false, is_some}
+use Rattle.std.specs.Prelude.{◌⊎◌, ◌<◌, Err, false, is_some}
 use Rattle.std.proofs.Common.{IsOkAnd, true≢false}
 use Rattle.std.specs.Result.{result_ok}
 use Rattle.model_card.specs.declared.kinds.CardKind.{CardKind}
@@ -10,14 +10,13 @@ use Rattle.lapd_timed.specs.declared.card_timers.CardTimers.{CardTimers}
 use Rattle.model_card.specs.Card as cards
 use Rattle.model_timed.specs.Changes.{unmarked}
 use Rattle.model_timed.specs.Clock.{Clock, stopped}
-use Rattle.lapd_clock.specs.Timer.{first_out_of_range}
 use Rattle.lapd_c.specs.Calls.{HasBegun, IsTimedStart, fresh}
 use Rattle.lapd_c.specs.Cards.{IsHandle, card_of}
 use Rattle.lapd_c.specs.Config.{config_fault, config_in}
 use Rattle.lapd_c.specs.Kept.{ChangesStandIn, TimersStandIn, timers_of}
 use Rattle.lapd_c.specs.Starts.{IsStart}
 use Rattle.lapd_c.specs.Statuses as status
-use Rattle.lapd_c.specs.Timers.{lengths_in}
+use Rattle.lapd_c.specs.Timers.{lengths_fault, lengths_in}
 use Rattle.lapd_c.specs.declared.card.CardHandle.{CardHandle}
 use Rattle.lapd_c.specs.declared.plain.config.PlainConfig.{PlainConfig}
 use Rattle.lapd_c.specs.declared.plain.timers.PlainLengths.{PlainLengths}
@@ -58,15 +57,11 @@ pub none-wrong : {A E : Type 0} (P : E → Type 0) (wrong : Option E) (r : Resul
 none-wrong P None r a err is = tt
 none-wrong P (Some w) r a err is = absurd (subst (λ x. IfOk x (λ _. ⊥)) (sym err ∙ is) tt)
 
-none-out : {A E B : Type 0} (P : B → Type 0) (wrong : Option B) (e : E) (r : Result A E) (a : A) → IfSome wrong (λ _. r ≡ Err e) → r ≡ Ok a → IfSome wrong P
-none-out P None e r a err is = tt
-none-out P (Some w) e r a err is = absurd (subst (λ x. IfOk x (λ _. ⊥)) (sym err ∙ is) tt)
-
 -- what is read, if it is, meets what a reading in range meets
-pub read-meets : {A E B : Type 0} (P : A → Type 0) (wrong : Option B) (r : Result A E) (a : A) (e : E)
-    → IfSome wrong (λ _. r ≡ Err e) → (wrong ≡ None → IsOkAnd r P) → r ≡ Ok a → P a
-read-meets P None r a e _ ok is = subst (λ x. IsOkAnd x P) is (ok refl)
-read-meets P (Some w) r a e err _ is = subst (λ x. IfOk x P) (sym err ∙ is) tt
+pub read-meets : {A E : Type 0} (P : A → Type 0) (wrong : Option E) (r : Result A E) (a : A)
+    → IfSome wrong (λ w. r ≡ Err w) → (wrong ≡ None → IsOkAnd r P) → r ≡ Ok a → P a
+read-meets P None r a _ ok is = subst (λ x. IsOkAnd x P) is (ok refl)
+read-meets P (Some w) r a err _ is = subst (λ x. IfOk x P) (sym err ∙ is) tt
 
 -- of a handle that holds nothing
 pub holds-none : {X : Type 0} (P : X → Type 0) (o : Option X) → is_some o ≡ false → IfSome o P
@@ -85,37 +80,42 @@ read-starts held config old new result r c none fault is ends kept = record {
 }
 
 -- and so a card that keeps its own timers, where their lengths are read, too
-pub timed-starts : {L C : Type 0} (kind : CardKind) (config : PlainConfig) (lengths : PlainLengths) (old new : CardHandle) (result wrong : ℕ) (r : Result C ℕ) (c : C) (s : Result L ℕ) (l : L)
+pub timed-starts : {L C : Type 0} (kind : CardKind) (config : PlainConfig) (lengths : PlainLengths) (old new : CardHandle) (result : ℕ) (r : Result C ℕ) (c : C) (s : Result L ℕ) (l : L)
     → IsHandle new → is_some (card_of old) ≡ false → IfSome (config_fault config) (λ wrong. r ≡ Err wrong) → r ≡ Ok c
-    → IfSome (first_out_of_range (lengths_in lengths)) (λ _. s ≡ Err wrong) → s ≡ Ok l
+    → IfSome (lengths_fault lengths) (λ wrong. s ≡ Err wrong) → s ≡ Ok l
     → (result ≡ status.ok) ⊎ ((result ≡ status.no_memory) × (new ≡ old))
     → (result ≡ status.ok → HasBegun (fresh kind (config_in config)) (card_of new))
     → (result ≡ status.ok → TimersStandIn (timers_of new) (card_in (fresh kind (config_in config))) (stopped (lengths_in lengths)))
     → (result ≡ status.ok → ChangesStandIn (timers_of new) (card_in (fresh kind (config_in config))) unmarked)
     → IsTimedStart kind config lengths old new result
-timed-starts kind config lengths old new result wrong r c s l handle none fault is out within ends begun timed marks = record {
+timed-starts kind config lengths old new result r c s l handle none fault is out within ends begun timed marks = record {
   handle = handle;
   second = holds-none (λ _. (result ≡ status.second_start) × (new ≡ old)) (card_of old) none;
   fault = λ _. none-wrong (λ wrong. (result ≡ wrong) × (new ≡ old)) (config_fault config) r c fault is;
-  wrong_time = λ _ _. none-out (λ _. (result ≡ status.wrong_time) × (new ≡ old)) (first_out_of_range (lengths_in lengths)) wrong s l out within;
+  wrong_lengths = λ _ _. none-wrong (λ wrong. (result ≡ wrong) × (new ≡ old)) (lengths_fault lengths) s l out within;
   otherwise = λ _ _ _. ends;
   begun = begun;
   timed = timed;
   unmarked = marks;
 }
 
-any-out : {B : Type 0} {P : Type 0} (o : Option B) → P → IfSome o (λ _. P)
-any-out None p = tt
-any-out (Some b) p = p
+-- where the lengths are not read, this says why
+abbrev the-fault : {A : Type 0} → Result A ℕ → ℕ
+the-fault (Ok a) = 0
+the-fault (Err e) = e
 
-pub timed-late : {C : Type 0} (kind : CardKind) (config : PlainConfig) (lengths : PlainLengths) (old : CardHandle) (result : ℕ) (r : Result C ℕ) (c : C)
+same-fault : {L : Type 0} (wrong : Option ℕ) (s : Result L ℕ) (e : ℕ) (P : Type 0) → IfSome wrong (λ w. s ≡ Err w) → s ≡ Err e → P → IfSome wrong (λ w. (e ≡ w) × P)
+same-fault None s e P fault is p = tt
+same-fault (Some w) s e P fault is p = (ap the-fault (sym is ∙ fault), p)
+
+pub timed-late : {L C : Type 0} (kind : CardKind) (config : PlainConfig) (lengths : PlainLengths) (old : CardHandle) (result : ℕ) (r : Result C ℕ) (c : C) (s : Result L ℕ)
     → IsHandle old → is_some (card_of old) ≡ false → IfSome (config_fault config) (λ wrong. r ≡ Err wrong) → r ≡ Ok c
-    → result ≡ status.wrong_time → (first_out_of_range (lengths_in lengths) ≡ None → ⊥) → IsTimedStart kind config lengths old old result
-timed-late kind config lengths old result r c handle none fault is late out = record {
+    → 10 < result → IfSome (lengths_fault lengths) (λ wrong. s ≡ Err wrong) → s ≡ Err result → (lengths_fault lengths ≡ None → ⊥) → IsTimedStart kind config lengths old old result
+timed-late kind config lengths old result r c s handle none fault is late late_fault late_is out = record {
   handle = handle;
   second = holds-none (λ _. (result ≡ status.second_start) × (old ≡ old)) (card_of old) none;
   fault = λ _. none-wrong (λ wrong. (result ≡ wrong) × (old ≡ old)) (config_fault config) r c fault is;
-  wrong_time = λ _ _. any-out (first_out_of_range (lengths_in lengths)) (late, refl);
+  wrong_lengths = λ _ _. same-fault (lengths_fault lengths) s result (old ≡ old) late_fault late_is refl;
   otherwise = λ _ _ within. absurd (out within);
   begun = λ e. absurd (omega (arith, late, e));
   timed = λ e. absurd (omega (arith, late, e));

@@ -1,5 +1,5 @@
 -- A card whose timers are the caller's, by the contracts of a start, of a call, and of an expiry.
-use Rattle.std.specs.Prelude.{◌≡◌, ℕ, false}
+use Rattle.std.specs.Prelude.{◌≡◌, ℕ, false, Option}
 use Rattle.model_card.specs.declared.kinds.CardKind.{CardKind}
 use Rattle.lapd_c.specs.declared.card.CardHandle.{CardHandle}
 use Rattle.lapd_c.specs.declared.plain.config.PlainConfig.{PlainConfig}
@@ -21,7 +21,7 @@ any_expire_asked line timer = record (expire_asked line timer) { cards = of_any 
 -- expiry, which speaks of cards whose timers are the caller's, holds of this card without that.
 pub record AsBefore : Type 0 where
   pub start : (kind : CardKind) (config : PlainConfig) (none begun : CardHandle) → IsCardStart kind config none begun status.ok → is_timed begun ≡ false
-  pub call : (cards : Wanted) (line result : ℕ) (old new : CardHandle) (before report : PlainReport) → IsCallOf cards line old new result before report
+  pub call : (cards : Wanted) (line result : ℕ) (names : Option ℕ) (old new : CardHandle) (before report : PlainReport) → IsCallOf cards line names old new result before report
       → is_timed old ≡ false → is_timed new ≡ false
   pub moment : (result : ℕ) (old new : CardHandle) (before report : PlainReport) → IsMomentCall old new result before report → is_timed old ≡ false → is_timed new ≡ false
   pub lengths : (result : ℕ) (old new : CardHandle) → IsTimersCall old new result → is_timed old ≡ false → is_timed new ≡ false

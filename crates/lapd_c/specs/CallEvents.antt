@@ -1,6 +1,6 @@
 -- Which event of which line a call is, and of which cards, in words of their own: those of `lapd.h`, and not those that the
 -- contracts of the calls use.
-use Rattle.std.specs.Prelude.{◌≡◌, ◌≢◌, ◌⊎◌, ℕ, ◌+◌, ◌≤◌, ◌<◌, nat_lt, List, [], ◌∷◌, is_some, Ok, Err, if◌then◌else◌, None}
+use Rattle.std.specs.Prelude.{◌≡◌, ◌≢◌, ◌⊎◌, ℕ, ◌+◌, ◌≤◌, ◌<◌, nat_lt, List, [], ◌∷◌, is_some, Some, Ok, Err, if◌then◌else◌, None}
 use Rattle.model_bits.specs.Stream.{dropped}
 use Rattle.model_bits.specs.declared.heard.Cause.{Cause}
 use Rattle.model_bits.specs.declared.heard.Cause.TheVariants as cause
@@ -19,11 +19,19 @@ use Rattle.lapd_c.specs.Asked.{octet_asked, pull_asked, frame_asked, failed_aske
 use Rattle.lapd_c.specs.CalledBy.{Asked, Happening, inside, at_port}
 use Rattle.lapd_c.specs.Numbers.{number_of, timed}
 use Rattle.lapd_c.specs.Reopened.{refused_place}
+use Rattle.lapd_c.specs.declared.plain.timers.PlainTimer.{PlainTimer}
 use Rattle.lapd_c.specs.Wanted.{Wanted, of_any, of_octets, of_frames, of_untimed}
 
 -- A call is of these cards, and this event of this line, whatever the card has.
 abbrev pub IsEvent : Wanted → Asked → ℕ → Happening → Type 0
 IsEvent cards asked line e = (asked.cards ≡ cards) × (asked.line ≡ line) × ((card : Card) → asked.event card ≡ Ok e)
+
+-- A request names its TEI, as the one whose links give contents up, if it is of a link, or one to remove a TEI.
+abbrev pub IsNamed : ℕ → Type 0
+IsNamed number = (line service tei : ℕ) (contents : List ℕ) → (request_asked line number service tei contents).names ≡ Some tei
+
+abbrev pub IsUnnamed : ℕ → Type 0
+IsUnnamed number = (line service tei : ℕ) (contents : List ℕ) → (request_asked line number service tei contents).names ≡ None
 
 -- A fault in place of a frame, a timer of a link, and a request have these numbers.
 abbrev pub IsFault : ℕ → Cause → Type 0
@@ -82,6 +90,11 @@ pub record CallsAreEvents : Type 0 where
   pub disown : IsRequest 12 (λ service tei. Disown tei)
   pub ask : IsRequest 13 (λ service tei. AskTei)
   pub verify : IsRequest 14 (λ service tei. VerifyTei tei)
+  -- Requests that name a TEI whose links may give contents up; no other request and no other call does.
+  pub names : IsNamed 1 × IsNamed 2 × IsNamed 3 × IsNamed 6 × IsNamed 8 × IsNamed 9 × IsNamed 10
+  pub no_names : IsUnnamed 4 × IsUnnamed 5 × IsUnnamed 7 × IsUnnamed 11 × IsUnnamed 12 × IsUnnamed 13 × IsUnnamed 14
+  pub others_name_none : (line value room : ℕ) (taken : List ℕ) (timer : PlainTimer) → ((octet_asked line value).names ≡ None) × ((pull_asked line).names ≡ None)
+      × ((frame_asked line taken).names ≡ None) × ((failed_asked line value).names ≡ None) × ((next_frame_asked line room).names ≡ None) × ((expire_asked line timer).names ≡ None)
   -- What numbers do not name is wrong; and contents of a request that is not of data.
   pub no_fault : (line : ℕ) → NamesNone 4 (failed_asked line) 27
   pub no_timer : (line service tei : ℕ) → NamesNone 4 (λ number. expire_asked line (timed number service tei)) 17

@@ -17,7 +17,8 @@ use Rattle.lapd_c.specs.Cards.{card_of, kind_in, marks_at, IsHandle, HandleStand
 use Rattle.lapd_c.specs.Counted.{Counts, CountsMeaning, counters_at}
 use Rattle.lapd_c.specs.Kept.{Obeys, ObeysMeaning, is_timed, orders_by, reply_seen_by, seen_by, timers_of}
 use Rattle.lapd_c.specs.Reopened.{TellsReopened, WaitsFor}
-use Rattle.lapd_c.specs.Reports.{ShowsPull}
+use Rattle.lapd_c.specs.Reports.{ShowsPull, given_up_tei}
+use Rattle.lapd_c.specs.Reserved.{unused}
 use Rattle.lapd_c.specs.Statuses as status
 use Rattle.lapd_c.specs.Statuses.{refusal_status}
 use Rattle.lapd_c.specs.Timers.{no_timer}
@@ -75,7 +76,7 @@ pub record Served (e : Happening) (m : Machine) (old new : CardHandle) (result :
   pub counted : IsCounted e m (counters_at old) (counters_at new)
 
 -- This holds of every call of a line, whatever happens.
-pub record IsCallOf (cards : Wanted) (line : ℕ) (old new : CardHandle) (result : ℕ) (before r : PlainReport) : Type 0 where
+pub record IsCallOf (cards : Wanted) (line : ℕ) (named : Option ℕ) (old new : CardHandle) (result : ℕ) (before r : PlainReport) : Type 0 where
   pub handle : IsHandle new
   -- The card is of the same kind, and keeps its own timers if it did.
   pub kind : kind_in new ≡ kind_in old
@@ -88,6 +89,9 @@ pub record IsCallOf (cards : Wanted) (line : ℕ) (old new : CardHandle) (result
   pub unwritten : result ≢ status.ok → r ≡ before
   pub reopened : WithLine of_any line new (λ m. result ≡ status.ok → TellsReopened line (card_in m) (marks_at old) (marks_at new) r)
   pub expired : result ≡ status.ok → r.expired ≡ no_timer
+  -- It tells of which TEI contents are given up; and what is for a later version is 0.
+  pub given_up : result ≡ status.ok → r.given_up_tei ≡ given_up_tei named r
+  pub tail : result ≡ status.ok → r.reserved ≡ unused 15
 
 -- Nothing changes: the card stands for the same machine, and has counted nothing; its timers are as they were; and the same links
 -- wait for room, or one more.
@@ -97,17 +101,18 @@ pub record Unchanged (line : ℕ) (waiting : Option ℕ) (old new : CardHandle) 
   pub timers : timers_of new ≡ timers_of old
   pub marks : WaitsFor waiting line (marks_at old) (marks_at new)
 
--- What a call asks: of which cards, of which line, and what happens there, or which status says what is wrong with its arguments.
+-- What a call asks: of which cards, of which line, of which TEI if it names one, and what happens there, or which status says what is wrong with its arguments.
 -- And which link waits for room after it, by its status.
 pub record Asked : Type 0 where
   pub cards : Wanted
   pub line : ℕ
+  pub names : Option ℕ
   pub event : Card → Result Happening ℕ
   pub waits : ℕ → Option ℕ
 
 -- A call is one event of a line.
 pub record Called (asked : Asked) (old new : CardHandle) (result : ℕ) (before r : PlainReport) : Type 0 where
-  pub call : IsCallOf asked.cards asked.line old new result before r
+  pub call : IsCallOf asked.cards asked.line asked.names old new result before r
   -- If something is wrong, or if the machine refuses the event, the status says so, is not OK, and nothing changes.
   pub wrong : WithLine asked.cards asked.line old (λ m. IfErr (asked.event (card_in m)) (λ wrong. result ≡ wrong))
   pub not_ok : WithLine asked.cards asked.line old (λ m. IfErr (asked.event (card_in m)) (λ wrong. wrong ≢ status.ok))

@@ -1,6 +1,5 @@
 -- What a start of a card comes to, and why a request of one is refused.
 use Rattle.std.specs.Prelude.{◌≡◌, ◌⊎◌, ℕ, false, Option, Some, None, IfSome, replicate}
-use Rattle.lapd_clock.specs.Timer.{first_out_of_range}
 use Rattle.lapd_count.specs.Counters.{none_counted}
 use Rattle.model_card.specs.Card.{Card}
 use Rattle.model_card.specs.Card as frames
@@ -23,7 +22,7 @@ use Rattle.lapd_c.specs.Kept.{is_timed, timers_of, ChangesStandIn, TimersStandIn
 use Rattle.lapd_c.specs.LinkMarks.{AreUnmarked}
 use Rattle.lapd_c.specs.Starts.{IsStart}
 use Rattle.lapd_c.specs.Statuses as status
-use Rattle.lapd_c.specs.Timers.{lengths_in}
+use Rattle.lapd_c.specs.Timers.{lengths_fault, lengths_in}
 use Rattle.model_timed.specs.Changes.{unmarked}
 use Rattle.model_timed.specs.Clock.{stopped}
 
@@ -49,15 +48,15 @@ pub record IsCardStart (kind : CardKind) (config : PlainConfig) (old new : CardH
   pub begun : result ≡ status.ok → HasBegun (fresh kind (config_in config)) (card_of new)
   pub timed : result ≡ status.ok → is_timed new ≡ false
 
--- And of one that keeps its own: none of them runs, the moment is 0, and no link has changed. A length that is out of range is
--- told after what is wrong with the configuration.
+-- And of one that keeps its own: none of them runs, the moment is 0, and no link has changed. What is wrong with the
+-- lengths is told after what is wrong with the configuration.
 pub record IsTimedStart (kind : CardKind) (config : PlainConfig) (lengths : PlainLengths) (old new : CardHandle) (result : ℕ) : Type 0 where
   pub handle : IsHandle new
   pub second : IfSome (card_of old) (λ _. (result ≡ status.second_start) × (new ≡ old))
   pub fault : card_of old ≡ None → IfSome (config_fault config) (λ wrong. (result ≡ wrong) × (new ≡ old))
-  pub wrong_time : card_of old ≡ None → config_fault config ≡ None
-      → IfSome (first_out_of_range (lengths_in lengths)) (λ _. (result ≡ status.wrong_time) × (new ≡ old))
-  pub otherwise : card_of old ≡ None → config_fault config ≡ None → first_out_of_range (lengths_in lengths) ≡ None
+  pub wrong_lengths : card_of old ≡ None → config_fault config ≡ None
+      → IfSome (lengths_fault lengths) (λ wrong. (result ≡ wrong) × (new ≡ old))
+  pub otherwise : card_of old ≡ None → config_fault config ≡ None → lengths_fault lengths ≡ None
       → (result ≡ status.ok) ⊎ ((result ≡ status.no_memory) × (new ≡ old))
   pub begun : result ≡ status.ok → HasBegun (fresh kind (config_in config)) (card_of new)
   pub timed : result ≡ status.ok

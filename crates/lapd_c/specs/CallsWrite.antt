@@ -27,6 +27,7 @@ use Rattle.lapd_c.specs.declared.clock.ClockHandle.{ClockHandle}
 use Rattle.lapd_c.specs.declared.kept.KeptCard.{KeptCard}
 use Rattle.lapd_c.specs.declared.plain.config.PlainConfig.{PlainConfig}
 use Rattle.lapd_c.specs.declared.plain.counters.PlainCounters.{PlainCounters}
+use Rattle.lapd_c.specs.declared.plain.notes.PlainNote.{PlainNote}
 use Rattle.lapd_c.specs.declared.plain.reports.PlainReport.{PlainReport}
 use Rattle.lapd_c.specs.declared.plain.timers.PlainLengths.{PlainLengths}
 use Rattle.lapd_c.specs.Answers.{octet_of}
@@ -42,7 +43,7 @@ use Rattle.lapd_c.specs.FallsDue.{FellDue, FindsNoneDue, IsMomentCall, IsTimersC
 use Rattle.lapd_c.specs.Frames.{IsGiven, next_at}
 use Rattle.lapd_c.specs.Kept.{TimersStandIn, is_timed, timers_of}
 use Rattle.lapd_c.specs.Starts.{IsFreed}
-use Rattle.lapd_c.specs.Timers.{lengths_in}
+use Rattle.lapd_c.specs.Timers.{lengths_fault}
 use Rattle.lapd_c.specs.Waits.{Waits}
 use Rattle.lapd_c.specs.Wanted.{FramesWithRoom, OctetsWithLine, Wanted}
 
@@ -59,6 +60,17 @@ pub record HasNothing (lines : ℕ) (h : CardHandle) : Type 0 where
   pub counts : length (counters_at h) ≡ lines
   pub no_waits : (line tei : ℕ) (service : Service) → Waits (marks_at h) line service tei → ⊥
   pub no_counts : (line : ℕ) (counter : Counter) → value_in (get_or (counters_at h) line none_counted) counter ≡ 0
+
+-- A report names the TEI whose links give contents up: that which is named, if one is; else that of the first note, if there is one.
+-- If they give none up, it has 255.
+pub record NamesGivenUp (names : Option ℕ) (r : PlainReport) : Type 0 where
+  pub none : r.given_up ≡ 0 → r.given_up_16 ≡ 0 → r.given_up_tei ≡ 255
+  pub named : (tei : ℕ) → names ≡ Some tei → (0 < r.given_up) ⊎ (0 < r.given_up_16) → r.given_up_tei ≡ tei
+  pub noted : (note : PlainNote) (notes : List PlainNote) → names ≡ None → take r.note_count r.notes ≡ note ∷ notes
+      → (0 < r.given_up) ⊎ (0 < r.given_up_16) → r.given_up_tei ≡ note.tei
+
+abbrev pub no_octets : List ℕ
+no_octets = 0 ∷ 0 ∷ 0 ∷ 0 ∷ 0 ∷ 0 ∷ 0 ∷ 0 ∷ 0 ∷ 0 ∷ 0 ∷ 0 ∷ 0 ∷ 0 ∷ 0 ∷ []
 
 -- A start where none is, with all in range, is OK, or finds no memory. Unless it is OK, nothing changes.
 pub record StartIsTold {H X : Type 0} (held : H → Option X) (IsInRange : Type 0) (old new : H) (result : ℕ) : Type 0 where
@@ -77,8 +89,13 @@ pub record CallsWrite : Type 0 where
   -- The report of a call names its line, and no timer; nor does that of a block of octets.
   pub named : (asked : Asked) (old new : CardHandle) (result : ℕ) (before r : PlainReport) (m : Machine) → Called asked old new result before r
       → HandleStands new m → asked.line < (card_in m).config.lines → result ≡ 0 → (r.line ≡ asked.line) × (r.expired ≡ record { timer = 0; service = 0; tei = 0 })
-  pub no_timer : (cards : Wanted) (line result : ℕ) (old new : CardHandle) (before r : PlainReport) → IsCallOf cards line old new result before r
+  pub no_timer : (cards : Wanted) (line result : ℕ) (names : Option ℕ) (old new : CardHandle) (before r : PlainReport) → IsCallOf cards line names old new result before r
       → result ≡ 0 → r.expired ≡ record { timer = 0; service = 0; tei = 0 }
+  -- It names the TEI of the links that give contents up, or 255. Its last 15 octets are 0.
+  pub given_up : (cards : Wanted) (line result : ℕ) (names : Option ℕ) (old new : CardHandle) (before r : PlainReport) → IsCallOf cards line names old new result before r
+      → result ≡ 0 → NamesGivenUp names r × (r.reserved ≡ no_octets)
+  pub fallen_given_up : (now number result : ℕ) (timer : Timer) (m : Machine) (c : Clock) (old new : CardHandle) (r : PlainReport) → FellDue now number timer m c old new result r
+      → NamesGivenUp None r × (r.reserved ≡ no_octets)
   -- A call leaves a card's kind of timers as it was.
   pub timed : (asked : Asked) (old new : CardHandle) (result : ℕ) (before r : PlainReport) → Called asked old new result before r → is_timed new ≡ is_timed old
   -- A moment before the clock's is refused, and one from 2^63 on. Else the first timer that is due falls due, or none is. A card
@@ -110,7 +127,7 @@ pub record CallsWrite : Type 0 where
   pub start : (kind : CardKind) (config : PlainConfig) (old new : CardHandle) (result : ℕ) → IsCardStart kind config old new result
       → StartIsTold card_of (config_fault config ≡ None) old new result
   pub timed_start : (kind : CardKind) (config : PlainConfig) (lengths : PlainLengths) (old new : CardHandle) (result : ℕ) → IsTimedStart kind config lengths old new result
-      → StartIsTold card_of ((config_fault config ≡ None) × (first_out_of_range (lengths_in lengths) ≡ None)) old new result
+      → StartIsTold card_of ((config_fault config ≡ None) × (lengths_fault lengths ≡ None)) old new result
   pub clock_start : (config : PlainConfig) (old new : ClockHandle) (result : ℕ) → IsClockStart config old new result
       → StartIsTold clock_of (config_fault config ≡ None) old new result
   -- A second start, and one with a wrong configuration or length, change nothing, and say so.
@@ -124,7 +141,7 @@ pub record CallsWrite : Type 0 where
       → IsTimedStart kind config lengths old new result → card_of old ≡ None → config_fault config ≡ Some wrong → (result ≡ wrong) × (new ≡ old)
   pub wrong_lengths : (kind : CardKind) (config : PlainConfig) (lengths : PlainLengths) (old new : CardHandle) (result : ℕ)
       → IsTimedStart kind config lengths old new result → card_of old ≡ None → config_fault config ≡ None
-      → IfSome (first_out_of_range (lengths_in lengths)) (λ _. (result ≡ 21) × (new ≡ old))
+      → IfSome (lengths_fault lengths) (λ wrong. (result ≡ wrong) × (new ≡ old))
   pub second_clock : (config : PlainConfig) (old new : ClockHandle) (result : ℕ) (clock : Timers) → IsClockStart config old new result
       → clock_of old ≡ Some clock → (result ≡ 13) × (new ≡ old)
   pub wrong_clock : (config : PlainConfig) (old new : ClockHandle) (result wrong : ℕ) → IsClockStart config old new result

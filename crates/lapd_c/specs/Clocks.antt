@@ -8,7 +8,9 @@ use Rattle.lapd_c.specs.Starts.{IsStart}
 use Rattle.lapd_c.specs.Statuses.{ok, no_clock, no_timer, wrong_line, wrong_time, no_place}
 use Rattle.lapd_c.specs.declared.plain.config.PlainConfig.{PlainConfig}
 use Rattle.lapd_c.specs.declared.plain.timers.PlainDue.{PlainDue}
+use Rattle.lapd_c.specs.Reserved.{unused}
 use Rattle.lapd_c.specs.Timers.{plain_timer}
+pub use Rattle.lapd_c.specs.Timers.{lengths_given}
 use Rattle.lapd_c.specs.declared.clock.ClockHandle.{ClockHandle}
 use Rattle.lapd_c.specs.Slots.{HeldClock}
 
@@ -36,12 +38,9 @@ pub record IsClockCall (tells : Timers → ℕ) (leaves : Timers → Timers) (ol
 
 -- A timer that fell due, with its line.
 abbrev pub plain_due : ℕ × Timer → PlainDue
-plain_due due = record { line = due.0; timer = plain_timer due.1 }
+plain_due due = record { line = due.0; timer = plain_timer due.1; reserved = unused 9 }
 
 -- How long timers are to run.
-abbrev pub lengths_given : ℕ → ℕ → ℕ → ℕ → Lengths
-lengths_given t200 t203 t201 t202 = record { t200 = t200; t203 = t203; t201 = t201; t202 = t202 }
-
 abbrev pub lengths_status : Lengths → Timers → ℕ
 lengths_status lengths c = if is_some (first_out_of_range lengths) then wrong_time else ok
 

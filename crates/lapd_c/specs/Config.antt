@@ -7,6 +7,7 @@ use Rattle.lapd_frame.specs.declared.readings.Reading.{Reading}
 use Rattle.lapd_frame.specs.declared.readings.Reading.TheVariants.{Profile, AnnexB}
 use Rattle.model_line.specs.declared.config.Config.{Config}
 use Rattle.model_line.specs.Config.{first_fault}
+use Rattle.lapd_c.specs.Reserved.{reserve_fault}
 use Rattle.lapd_c.specs.Statuses.{bad_reading, bad_side, field_status}
 use Rattle.lapd_c.specs.declared.plain.config.PlainConfig.{PlainConfig}
 
@@ -45,7 +46,7 @@ config_in p = record {
 }
 
 -- The status of a start where a field is out of range: that of the first. After the card's own come the side, which is 0 to 2,
--- and the reading, which is 0 or 1.
+-- the reading, which is 0 or 1, and what is for a later version, which is 0.
 abbrev pub side_fault : PlainConfig → Option ℕ
 side_fault p = if nat_lt 2 p.side then Some bad_side else None
 
@@ -53,4 +54,4 @@ abbrev pub reading_fault : PlainConfig → Option ℕ
 reading_fault p = if nat_lt 1 p.reading then Some bad_reading else None
 
 abbrev pub config_fault : PlainConfig → Option ℕ
-config_fault p = option_or (option_map field_status (first_fault (config_in p))) (option_or (side_fault p) (reading_fault p))
+config_fault p = option_or (option_map field_status (first_fault (config_in p))) (option_or (side_fault p) (option_or (reading_fault p) (reserve_fault p.reserved)))

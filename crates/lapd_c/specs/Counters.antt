@@ -3,9 +3,10 @@ use Rattle.lapd_count.specs.declared.counters.Counters.{Counters}
 use Rattle.model_link.specs.declared.counts.LinkCounts.{LinkCounts}
 use Rattle.lapd_c.specs.declared.plain.counters.PlainCounters.{PlainCounters}
 use Rattle.lapd_c.specs.declared.plain.counters.PlainLinkCounters.{PlainLinkCounters}
+use Rattle.lapd_c.specs.Reserved.{unused}
 
 abbrev pub plain_counters : Counters → PlainCounters
-plain_counters counters = record { values = counters.values }
+plain_counters counters = record { values = counters.values; reserved = unused 17 }
 
 abbrev pub plain_link_counters : LinkCounts → PlainLinkCounters
 plain_link_counters counts = record {
@@ -14,4 +15,5 @@ plain_link_counters counts = record {
   rejects_sent = counts.rejects_sent;
   rejects_received = counts.rejects_received;
   established = counts.established;
+  reserved = unused 11;
 }

@@ -15,6 +15,8 @@ use Rattle.lapd_c.specs.Cards.{card_of, kind_in, marks_at, served_card, IsHandle
 use Rattle.lapd_c.specs.Counted.{Counts, counters_at}
 use Rattle.lapd_c.specs.Kept.{ChangesStandIn, TimersStandIn, is_timed, timers_of, without_orders}
 use Rattle.lapd_c.specs.Reopened.{TellsReopened}
+use Rattle.lapd_c.specs.Reports.{given_up_tei}
+use Rattle.lapd_c.specs.Reserved.{unused}
 use Rattle.lapd_c.specs.Statuses as status
 use Rattle.lapd_c.specs.Timers.{plain_timer}
 
@@ -73,6 +75,8 @@ pub record FellDue (now line : ℕ) (timer : Timer) (m : Machine) (c : Clock) (o
   pub of_line : r.line ≡ line
   pub expired : r.expired ≡ plain_timer timer
   pub shown : ShowsAnswer r (without_orders (answer (expires line timer) m))
+  pub given_up : r.given_up_tei ≡ given_up_tei None r
+  pub tail : r.reserved ≡ unused 15
   pub stands : HandleStands new (after (expires line timer) m)
   pub timers : TimersStandIn (timers_of new) (card_in (after (expires line timer) m))
       (obeyed line (orders_at (expires line timer) (card_in m)) (without_first (at_moment now c)))

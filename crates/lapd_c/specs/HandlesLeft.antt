@@ -1,5 +1,5 @@
 -- Which handle a call leaves behind, whatever its status: one that may be given to the next call.
-use Rattle.std.specs.Prelude.{◌≡◌, ◌≤◌, ℕ, is_some, IfSome}
+use Rattle.std.specs.Prelude.{◌≡◌, ◌≤◌, ℕ, is_some, Option, IfSome}
 use Rattle.lapd_clock.specs.Timers.{Timers}
 use Rattle.model_card.specs.declared.kinds.CardKind.{CardKind}
 use Rattle.lapd_c.specs.declared.card.CardHandle.{CardHandle}
@@ -30,7 +30,7 @@ pub record HandlesAreLeft : Type 0 where
   pub clock_given : (h : ClockHandle) → ClockIsLeft h → clocks.IsHandle h
   -- A call of a line leaves it so, and a block of octets; a call with a moment, and one that sets lengths.
   pub call : (asked : Asked) (old new : CardHandle) (result : ℕ) (before r : PlainReport) → Called asked old new result before r → IsLeft new
-  pub block : (cards : Wanted) (line result : ℕ) (old new : CardHandle) (before r : PlainReport) → IsCallOf cards line old new result before r → IsLeft new
+  pub block : (cards : Wanted) (line result : ℕ) (names : Option ℕ) (old new : CardHandle) (before r : PlainReport) → IsCallOf cards line names old new result before r → IsLeft new
   pub moment : (old new : CardHandle) (result : ℕ) (before r : PlainReport) → IsMomentCall old new result before r → IsLeft new
   pub lengths : (old new : CardHandle) (result : ℕ) → IsTimersCall old new result → IsLeft new
   -- So does a start, and an end; and what is called of a clock.

@@ -27,6 +27,8 @@ use Rattle.lapd_c.specs.Slots.{HeldCard}
 use Rattle.lapd_c.specs.Cards.{card_of}
 use Rattle.lapd_c.specs.LinkMarks.{MarksBecome, marks_of}
 use Rattle.lapd_c.specs.Reopened.{IsFirstOpen, TellsReopened, waits_on, with_reopened}
+use Rattle.lapd_c.specs.Reports.{given_up_tei}
+use Rattle.lapd_c.specs.Reserved.{unused}
 use Rattle.lapd_c.specs.Timers.{no_timer}
 
 -- Its timers; none where it keeps none, or no card is there. And whether it keeps them.
@@ -115,8 +117,10 @@ pub record TakesFirst (line : ℕ) (told : Option ℕ) (old new : KeptCard) : Ty
   pub marks : (m : Machine) → AnyStands old.timed.card m → line < (card_in m).config.lines
       → MarksBecome line (waits_on told line (card_in m) (marks_of old.refused line)) old.refused new.refused
 
--- A call of a line ends: which link has room is told.
-pub record Settles (line : ℕ) (old new : KeptCard) (r : PlainReport) : Type 0 where
+-- A call of a line ends: which link has room is told, and of which TEI contents are given up.
+pub record Settles (line : ℕ) (named : Option ℕ) (old new : KeptCard) (r : PlainReport) : Type 0 where
   pub timed : new.timed ≡ old.timed
   pub expired : r.expired ≡ no_timer
+  pub given_up : r.given_up_tei ≡ given_up_tei named r
+  pub tail : r.reserved ≡ unused 15
   pub tells : TellsRoom line old new r

@@ -1,5 +1,6 @@
 -- What the library for C says; first, what the numbers of C mean.
 pub mod Statuses
+pub mod Reserved
 pub mod Services
 pub mod Config
 pub mod Starts
@@ -79,7 +80,7 @@ pub use Rattle.model_line.specs.Event.{nothing}
 pub use Rattle.lapd_c.specs.Answers.{octet_of, ShowsReply}
 pub use Rattle.lapd_c.specs.Wanted.{FramesWithLine, FramesWithRoom, of_any, of_frames, of_octets, of_untimed, OctetsWithLine, OfEach, WithLine}
 pub use Rattle.lapd_c.specs.Calls.{Begins, fresh, IsCardStart, IsTimedStart, refusal_at}
-pub use Rattle.lapd_c.specs.Asked.{expire_asked, expiry_at, failed_asked, frame_asked, next_frame_asked, octet_asked, pull_asked, request_asked, request_at}
+pub use Rattle.lapd_c.specs.Asked.{expire_asked, expiry_at, failed_asked, frame_asked, named_in, next_frame_asked, octet_asked, pull_asked, request_asked, request_at}
 pub use Rattle.lapd_c.specs.CalledBy.{at_port, Called, inside, IsCallOf, Served}
 pub use Rattle.lapd_c.specs.Questions.{begun_frame_of, begun_of, heard_frame_of, heard_of, in_front, IsQuestion, limit_of, lines_of, link_counters_of, Questioned, room_of, state_of, stored_of, waiting_from}
 pub use Rattle.lapd_c.specs.Changed.{TellsWord, WithMarks, changed_of}
@@ -96,8 +97,9 @@ pub use Rattle.lapd_c.specs.Kept.{ChangesStandIn, is_timed, Obeys, orders_seen, 
 pub use Rattle.lapd_c.specs.LinkMarks.{AreMarked, AreUnmarked, marks_of, MarksBecome}
 pub use Rattle.lapd_c.specs.Links.{FirstFrom, IsNext, NoneFrom}
 pub use Rattle.lapd_c.specs.Notes.{plain_note}
+pub use Rattle.lapd_c.specs.Reserved.{is_unused, unused}
 pub use Rattle.lapd_c.specs.Reopened.{is_open, is_there, IsFirstOpen, refused_place, ShowsReopened, TellsReopened, waits_on, waits_there, WaitsFor, with_reopened}
-pub use Rattle.lapd_c.specs.Reports.{contents_in, contents_or_none, mark_of, orders_of, SameButContents, Shows, ShowsPull}
+pub use Rattle.lapd_c.specs.Reports.{contents_in, contents_or_none, given_up_tei, mark_of, orders_of, SameButContents, Shows, ShowsPull}
 pub use Rattle.lapd_c.specs.Requests.{request_in}
 pub use Rattle.lapd_c.specs.Rooms.{plain_room}
 pub use Rattle.lapd_c.specs.Services.{service_in}

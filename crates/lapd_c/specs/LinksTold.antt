@@ -1,5 +1,5 @@
 -- Which links a line is told to have, in words of their own.
-use Rattle.std.specs.Prelude.{◌≡◌, ◌≤◌, ◌<◌, ◌+◌, ◌*◌, ℕ, Some, None}
+use Rattle.std.specs.Prelude.{◌≡◌, ◌≤◌, ◌<◌, ◌+◌, ◌*◌, ℕ, [], ◌∷◌, Some, None}
 use Rattle.lapd_frame.specs.declared.services.Service.{Service}
 use Rattle.lapd_frame.specs.declared.services.Service.TheVariants.{Call, Packet}
 use Rattle.lapd_frame.specs.Services.{sapi_of}
@@ -16,7 +16,7 @@ turn Packet tei = 2 * tei + 1
 abbrev pub NoneBetween : ℕ → Card → ℕ → ℕ → Type 0
 NoneBetween line m from to = (service : Service) (tei : ℕ) → from ≤ turn service tei → turn service tei < to → state line service tei m ≡ None
 
--- A link that is told is on the line, in its state; and it is the first of those left.
+-- A link that is told is on the line, in its state; and it is the first of those left. What is for a later version is 0.
 pub record IsTheFirst (line : ℕ) (m : Card) (from to : ℕ) (link : PlainLink) : Type 0 where
   pub service : Service
   pub of_service : link.service ≡ sapi_of service
@@ -24,6 +24,7 @@ pub record IsTheFirst (line : ℕ) (m : Card) (from to : ℕ) (link : PlainLink)
   pub left : from ≤ turn service link.tei
   pub before : NoneBetween line m from (turn service link.tei)
   pub next : to ≡ turn service link.tei + 1
+  pub tail : link.reserved ≡ 0 ∷ 0 ∷ 0 ∷ 0 ∷ 0 ∷ []
 
 -- If none is told, no link of a TEI that a terminal can have is left.
 pub record LinksAreTold : Type 0 where

@@ -8,9 +8,10 @@ use Rattle.lapd_frame.specs.declared.services.Service.{Service}
 use Rattle.lapd_frame.specs.declared.services.Service.TheVariants.{Call}
 use Rattle.lapd_frame.specs.Services.{sapi_of, letter_of}
 use Rattle.lapd_c.specs.declared.plain.notes.PlainNote.{PlainNote}
+use Rattle.lapd_c.specs.Reserved.{unused}
 
 abbrev pub of_link : ℕ → Service → ℕ → PlainNote
-of_link number service tei = record { note = number; service = sapi_of service; tei = tei; error = 0 }
+of_link number service tei = record { note = number; service = sapi_of service; tei = tei; error = 0; reserved = unused 4 }
 
 -- A TEI that TEI management assigned, or that left the line, is no service's; its note has 0 there. So has one that is about no
 -- TEI of its own, which names 127.

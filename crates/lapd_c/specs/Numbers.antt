@@ -1,5 +1,5 @@
 -- What numbers mean in C, each in words of its own: as `include/lapd.h` has them.
-use Rattle.std.specs.Prelude.{◌≡◌, ◌⊎◌, ◌≤◌, ◌<◌, ℕ, List, [], ◌∷◌, Some, None, Ok, Err}
+use Rattle.std.specs.Prelude.{◌≡◌, ◌≢◌, ◌⊎◌, ◌≤◌, ◌<◌, ℕ, List, [], ◌∷◌, get_or, Some, None, IfSome, Ok, Err}
 use Rattle.lapd_frame.specs.declared.notes.ErrorCode.TheVariants as code
 use Rattle.lapd_frame.specs.declared.notes.Note.TheVariants as note
 use Rattle.lapd_frame.specs.declared.refusals.Refusal.TheVariants as refusal
@@ -21,18 +21,18 @@ use Rattle.lapd_c.specs.Heads.{plain_head}
 use Rattle.lapd_c.specs.Notes.{cause_number, plain_note}
 use Rattle.lapd_c.specs.Requests.{request_in}
 use Rattle.lapd_c.specs.Rooms.{plain_room}
-use Rattle.lapd_c.specs.Said.{ConfigurationsAreGiven}
+use Rattle.lapd_c.specs.Said.{AreAllZero, ConfigurationsAreGiven}
 use Rattle.lapd_c.specs.Statuses as status
 pub use Rattle.lapd_c.specs.Services.{number_of}
 use Rattle.lapd_c.specs.Statuses.{field_status, refusal_status}
-use Rattle.lapd_c.specs.Timers.{lengths_in, link_in, order_in, plain_order, plain_timer, timer_in}
+use Rattle.lapd_c.specs.Timers.{lengths_fault, lengths_in, link_in, order_in, plain_order, plain_timer, timer_in}
 use Rattle.lapd_c.specs.declared.plain.notes.PlainNote.{PlainNote}
 use Rattle.lapd_c.specs.declared.plain.timers.PlainLengths.{PlainLengths}
 use Rattle.lapd_c.specs.declared.plain.timers.PlainOrder.{PlainOrder}
 use Rattle.lapd_c.specs.declared.plain.timers.PlainTimer.{PlainTimer}
 
 abbrev pub noted : ℕ → ℕ → ℕ → ℕ → PlainNote
-noted number service tei letter = record { note = number; service = service; tei = tei; error = letter }
+noted number service tei letter = record { note = number; service = service; tei = tei; error = letter; reserved = 0 ∷ 0 ∷ 0 ∷ 0 ∷ [] }
 
 abbrev pub timed : ℕ → ℕ → ℕ → PlainTimer
 timed number service tei = record { timer = number; service = service; tei = tei }
@@ -110,11 +110,15 @@ pub record NumbersAreGiven : Type 0 where
   pub stop_given : (p : PlainTimer) (timer : Timer) → timer_in p ≡ Ok timer → order_in (ordered 2 p) ≡ Ok (Stop timer)
   pub wrong_order : (number : ℕ) (p : PlainTimer) → (number ≡ 0) ⊎ (2 < number) → order_in (ordered number p) ≡ Err 20
   pub wrong_timer : (number wrong : ℕ) (p : PlainTimer) → 1 ≤ number → number ≤ 2 → timer_in p ≡ Err wrong → order_in (ordered number p) ≡ Err wrong
-  pub due : (line : ℕ) (timer : Timer) → plain_due (line, timer) ≡ record { line = line; timer = plain_timer timer }
+  pub due : (line : ℕ) (timer : Timer) → plain_due (line, timer) ≡ record { line = line; timer = plain_timer timer; reserved = 0 ∷ 0 ∷ 0 ∷ 0 ∷ 0 ∷ 0 ∷ 0 ∷ 0 ∷ 0 ∷ [] }
   pub lengths : (p : PlainLengths) → lengths_in p ≡ record { t200 = p.t200; t203 = p.t203; t201 = p.t201; t202 = p.t202 }
   pub lengths_set : (t200 t203 t201 t202 : ℕ) → lengths_given t200 t203 t201 t202 ≡ record { t200 = t200; t203 = t203; t201 = t201; t202 = t202 }
   pub lengths_served : (l : Lengths) → AreServed l → first_out_of_range l ≡ None
   pub lengths_refused : (l : Lengths) → first_out_of_range l ≡ None → AreServed l
+  -- What is wrong with lengths: one is out of range; else what is for a later version is not 0.
+  pub wrong_lengths : (p : PlainLengths) → IfSome (first_out_of_range (lengths_in p)) (λ _. lengths_fault p ≡ Some 21)
+  pub used_lengths : (p : PlainLengths) (place : ℕ) → first_out_of_range (lengths_in p) ≡ None → get_or p.reserved place 0 ≢ 0 → lengths_fault p ≡ Some 47
+  pub right_lengths : (p : PlainLengths) → first_out_of_range (lengths_in p) ≡ None → AreAllZero p.reserved → lengths_fault p ≡ None
   -- What a start is given.
   pub configurations : ConfigurationsAreGiven
   -- Requests; of data and of unit data also the contents.
@@ -161,8 +165,8 @@ pub record NumbersAreGiven : Type 0 where
       ∷ status.wrong_length ∷ status.wrong_order ∷ status.wrong_time ∷ status.no_memory ∷ status.no_timer ∷ status.no_place ∷ status.no_more_links ∷ status.wrong_card
       ∷ status.wrong_cause ∷ status.no_frame ∷ [] ≡ 11 ∷ 12 ∷ 13 ∷ 14 ∷ 15 ∷ 16 ∷ 17 ∷ 18 ∷ 19 ∷ 20 ∷ 21 ∷ 22 ∷ 23 ∷ 24 ∷ 25 ∷ 26 ∷ 27 ∷ 28 ∷ []
   -- What a card tells of itself.
-  pub room : (r : Room) → plain_room r ≡ record { pool = r.pool; queue = r.queue; va = r.va }
-  pub no_head : plain_head None ≡ record { length = 0; octets = 0 ∷ 0 ∷ 0 ∷ 0 ∷ [] }
-  pub head : (h : Head) → plain_head (Some h) ≡ record { length = h.length; octets = h.octets }
+  pub room : (r : Room) → plain_room r ≡ record { pool = r.pool; queue = r.queue; va = r.va; reserved = 0 ∷ 0 ∷ 0 ∷ 0 ∷ 0 ∷ 0 ∷ 0 ∷ 0 ∷ 0 ∷ 0 ∷ [] }
+  pub no_head : plain_head None ≡ record { length = 0; octets = 0 ∷ 0 ∷ 0 ∷ 0 ∷ []; reserved = 0 ∷ 0 ∷ [] }
+  pub head : (h : Head) → plain_head (Some h) ≡ record { length = h.length; octets = h.octets; reserved = 0 ∷ 0 ∷ [] }
   -- What is counted of a line.
   pub counters : CountersArePlaced

@@ -50,13 +50,17 @@ abbrev pub frames_in : Machine → Card
 frames_in (with_ports m) = m.card
 frames_in (alone m) = m
 
+-- So many 0s, as what is for a later version has.
+abbrev pub zeros : ℕ → List ℕ
+zeros places = replicate places 0
+
 -- No service has this number.
 abbrev pub IsNoService : ℕ → Type 0
 IsNoService number = (number ≢ 0) × (number ≢ 16)
 
 -- The room beside a link: slots of the pool that are free, places of its queue that contents which are not acknowledged leave, and V(A).
 abbrev pub room_beside : Link → Card → PlainRoom
-room_beside l card = record { pool = card.config.slots - used card; queue = card.config.queue - length (drop l.a l.contents); va = l.a % 128 }
+room_beside l card = record { pool = card.config.slots - used card; queue = card.config.queue - length (drop l.a l.contents); va = l.a % 128; reserved = zeros 10 }
 
 -- The counters of a link, as they are.
 abbrev pub counters_beside : Link → PlainLinkCounters
@@ -66,11 +70,12 @@ counters_beside l = record {
   rejects_sent = l.counts.rejects_sent;
   rejects_received = l.counts.rejects_received;
   established = l.counts.established;
+  reserved = zeros 11;
 }
 
 -- How a frame begins: its first four octets, with 0 after its end. Of none, its length is 0.
 abbrev pub beginning : List ℕ → PlainHead
-beginning octets = record { length = length octets; octets = take 4 (octets ++ replicate 4 0) }
+beginning octets = record { length = length octets; octets = take 4 (octets ++ zeros 4); reserved = zeros 2 }
 
 -- The last of a list, or another value if the list is empty.
 abbrev pub last_or : {A : Type 0} → A → List A → A
@@ -85,7 +90,7 @@ frame_in (item.frame octets) = octets ∷ []
 
 abbrev pub beginning_in : ℕ → Event → List PlainHead
 beginning_in n201 (stream.frame octets) = beginning octets ∷ []
-beginning_in n201 (overlong four) = record { length = n201 + 5; octets = four } ∷ []
+beginning_in n201 (overlong four) = record { length = n201 + 5; octets = four; reserved = zeros 2 } ∷ []
 beginning_in n201 (dropped cause) = []
 
 -- A whole frame, in front of other octets, if there is one and if it has room there; and of what was heard, the octets.
@@ -173,7 +178,7 @@ pub record QuestionsAreAnswered : Type 0 where
   pub waits : (from line : ℕ) (m : Card) → WaitsFirst m from line → waiting_from from (alone m) ≡ Ok line
   pub none_waits : (from : ℕ) (m : Card) → NoneWaits m from → waiting_from from (alone m) ≡ Err 28
   -- Counters are told as they are, each at its place.
-  pub counters : (c : Counters) → plain_counters c ≡ record { values = c.values }
+  pub counters : (c : Counters) → plain_counters c ≡ record { values = c.values; reserved = zeros 17 }
   -- A card stores what its machine does: what the card of frames does, and the frames on their way. It may store, of each line, control frames, messages, and the frames on their way, and of each
   -- slot N201 octets.
   pub stored : (m : OctetCard) → stored_of (with_ports m) ≡ Ok (of_octets.stored m)
@@ -201,12 +206,12 @@ not_on_the_line : state_of 0 16 65 (alone with_tei) ≡ Ok 0
 unfolding lines.after lines.takes_slot teis.course teis.refusal
 not_on_the_line = refl
 
-all_is_left : room_of 0 16 64 (alone with_tei) ≡ Ok (record { pool = 64; queue = 8; va = 0 })
+all_is_left : room_of 0 16 64 (alone with_tei) ≡ Ok (record { pool = 64; queue = 8; va = 0; reserved = zeros 10 })
 unfolding lines.after lines.takes_slot teis.course teis.refusal
 all_is_left = refl
 
 none_counted : link_counters_of 0 0 64 (alone with_tei)
-    ≡ Ok (record { sent_again = 0; t200_expired = 0; rejects_sent = 0; rejects_received = 0; established = 0 })
+    ≡ Ok (record { sent_again = 0; t200_expired = 0; rejects_sent = 0; rejects_received = 0; established = 0; reserved = zeros 11 })
 unfolding lines.after lines.takes_slot teis.course teis.refusal
 none_counted = refl
 
@@ -217,7 +222,7 @@ changed_told = refl
 abbrev sabme : OctetCard
 sabme = record { card = with_tei; ports = record { received = []; items = item.frame (2 ∷ 129 ∷ 127 ∷ []) ∷ idle ∷ []; given = [] } ∷ [] }
 
-begun_told : begun_of 0 (with_ports sabme) ≡ Ok (record { length = 3; octets = 2 ∷ 129 ∷ 127 ∷ 0 ∷ [] })
+begun_told : begun_of 0 (with_ports sabme) ≡ Ok (record { length = 3; octets = 2 ∷ 129 ∷ 127 ∷ 0 ∷ []; reserved = zeros 2 })
 begun_told = refl
 
 limit_told : limit_of (with_ports sabme) ≡ Ok 17470

@@ -57,9 +57,17 @@ abbrev pub ShowsReopened : PlainReport → Option ℕ → Type 0
 ShowsReopened r None = r.reopened ≡ 0
 ShowsReopened r (Some place) = (r.reopened ≡ 1) × (r.reopened_service ≡ sapi_of (service_at place)) × (r.reopened_tei ≡ tei_at place)
 
--- Nothing else of a report is another, but its line, and which timer fell due.
+-- Nothing else of a report is another, but its line, which timer fell due, whose contents are given up, and what is unused.
 abbrev pub with_reopened : PlainReport → PlainReport → PlainReport
-with_reopened from r = record r { reopened = from.reopened; reopened_service = from.reopened_service; reopened_tei = from.reopened_tei; line = from.line; expired = from.expired }
+with_reopened from r = record r {
+  reopened = from.reopened;
+  reopened_service = from.reopened_service;
+  reopened_tei = from.reopened_tei;
+  line = from.line;
+  expired = from.expired;
+  given_up_tei = from.given_up_tei;
+  reserved = from.reserved;
+}
 
 -- Of those that waited, all wait on but the one that is told, and those that are no longer there.
 abbrev pub is_told : Option ℕ → ℕ → Bool

@@ -1,5 +1,6 @@
 -- What a report shows.
-use Rattle.std.specs.Prelude.{◌≡◌, ℕ, ◌==◌, Bool, List, [], length, take, map, Option, Some, None, if◌then◌else◌}
+use Rattle.std.specs.Prelude.{◌≡◌, ℕ, ◌==◌, ◌&&◌, Bool, List, [], ◌∷◌, length, take, map, Option, Some, None, if◌then◌else◌}
+use Rattle.std.specs.Option.{unwrap_or}
 use Rattle.lapd_frame.specs.declared.timers.Order.{Order}
 use Rattle.model_line.specs.Event.{LineTold}
 use Rattle.lapd_c.specs.declared.plain.notes.PlainNote.{PlainNote}
@@ -27,6 +28,15 @@ contents_or_none (Some contents) = contents
 abbrev pub mark_of : Option (List ℕ) → ℕ
 mark_of None = 0
 mark_of (Some contents) = 1
+
+-- The TEI of the links that give up what a report counts: that which the call names, if it names one; else that of the first note.
+-- 255 if nothing is given up (profile).
+abbrev pub first_tei : List PlainNote → ℕ
+first_tei [] = 255
+first_tei (note ∷ notes) = note.tei
+
+abbrev pub given_up_tei : Option ℕ → PlainReport → ℕ
+given_up_tei named r = if (r.given_up == 0) && (r.given_up_16 == 0) then 255 else unwrap_or named (first_tei (notes_in r))
 
 -- It shows what an octet, an expiry or a request was answered with: all of it, and nothing else.
 pub record Shows (r : PlainReport) (t : LineTold) : Type 0 where

@@ -1,5 +1,5 @@
 -- What a C program's numbers say, in words of their own: not by those that the contracts of the calls use.
-use Rattle.std.specs.Prelude.{◌≡◌, ◌≢◌, ◌≤◌, ◌<◌, Some, None}
+use Rattle.std.specs.Prelude.{◌≡◌, ◌≢◌, ◌≤◌, ◌<◌, ℕ, List, get_or, Some, None}
 use Rattle.lapd_frame.specs.declared.addresses.Side.TheVariants.{User, Network}
 use Rattle.lapd_frame.specs.declared.readings.Reading.TheVariants.{Profile, AnnexB}
 use Rattle.model_line.specs.declared.config.Field.{Field}
@@ -29,12 +29,18 @@ pub record ConfigurationIsGiven (p : PlainConfig) : Type 0 where
   pub profile : p.reading ≡ 0 → (config_in p).reading ≡ Profile
   pub annex_b : p.reading ≡ 1 → (config_in p).reading ≡ AnnexB
 
--- A start tells the first of these that is out of range, after them a side over 2, and then a reading over 1. It tells nothing else.
+-- All places of a list are 0.
+abbrev pub AreAllZero : List ℕ → Type 0
+AreAllZero places = (place : ℕ) → get_or places place 0 ≡ 0
+
+-- A start tells the first of these that is out of range, after them a side over 2, then a reading over 1, and then that what is for a
+-- later version is not 0. It tells nothing else.
 pub record ConfigurationIsServed (p : PlainConfig) : Type 0 where
   pub bad_field : (f : Field) → first_fault (config_in p) ≡ Some f → config_fault p ≡ Some (field_status f)
   pub bad_side : first_fault (config_in p) ≡ None → 2 < p.side → config_fault p ≡ Some 43
   pub bad_reading : first_fault (config_in p) ≡ None → p.side ≤ 2 → 1 < p.reading → config_fault p ≡ Some 45
-  pub in_range : first_fault (config_in p) ≡ None → p.side ≤ 2 → p.reading ≤ 1 → config_fault p ≡ None
+  pub used : (place : ℕ) → first_fault (config_in p) ≡ None → p.side ≤ 2 → p.reading ≤ 1 → get_or p.reserved place 0 ≢ 0 → config_fault p ≡ Some 47
+  pub in_range : first_fault (config_in p) ≡ None → p.side ≤ 2 → p.reading ≤ 1 → AreAllZero p.reserved → config_fault p ≡ None
 
 abbrev pub ConfigurationsAreGiven : Type 0
 ConfigurationsAreGiven = (p : PlainConfig) → ConfigurationIsGiven p × ConfigurationIsServed p

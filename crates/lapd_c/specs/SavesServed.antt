@@ -3,7 +3,7 @@ use Rattle.std.specs.Prelude.{◌≡◌, ◌≢◌, ◌⊎◌, ◌≤◌, ◌<�
 use Rattle.lapd_card.specs.Image.{begun_as}
 use Rattle.lapd_card.specs.Kinds.{card_in, Machine}
 use Rattle.lapd_clock.specs.Image as clocks
-use Rattle.lapd_clock.specs.Timer.{Lengths, first_out_of_range}
+use Rattle.lapd_clock.specs.Timer.{Lengths}
 use Rattle.lapd_clock.specs.Timers.{after_due, idle, Timers}
 use Rattle.lapd_frame.specs.declared.services.Service.{Service}
 use Rattle.lapd_timed.specs.Image.{kind_in}
@@ -33,7 +33,7 @@ use Rattle.lapd_c.specs.HandlesLeft.{ClockIsLeft, IsLeft}
 use Rattle.lapd_c.specs.Kept.{is_timed, timers_of, TimersStandIn}
 use Rattle.lapd_c.specs.Orders.{after_report}
 use Rattle.lapd_c.specs.Saves.{image_octets, HandleHolds, IsCardRestore, IsCardSave}
-use Rattle.lapd_c.specs.Timers.{order_in}
+use Rattle.lapd_c.specs.Timers.{lengths_fault, lengths_in, order_in}
 use Rattle.lapd_c.specs.Waits.{Waits}
 use Rattle.lapd_c.specs.Wanted.{of_octets, OctetsWithLine}
 
@@ -98,16 +98,16 @@ pub record CardMayBeSaved (h : CardHandle) : Type 0 where
 -- moment, and one that sets lengths. So it may be where a call leaves it as it was, as each question and each save does.
 pub record CardStays (old : CardHandle) : Type 0 where
   pub called : (asked : Asked) (new : CardHandle) (result : ℕ) (before r : PlainReport) → Called asked old new result before r → CardMayBeSaved new
-  pub block : (line from to result : ℕ) (taken given given' : List ℕ) (new : CardHandle) (before r : PlainReport) → IsCallOf of_octets line old new result before r
+  pub block : (line from to result : ℕ) (taken given given' : List ℕ) (new : CardHandle) (before r : PlainReport) → IsCallOf of_octets line None old new result before r
       → (result ≢ 0 → card_of new ≡ card_of old)
       → OctetsWithLine line old (λ m. is_exchange taken given from ≡ false → result ≡ 19)
       → OctetsWithLine line old (λ m. is_exchange taken given from ≡ true → Exchanges line taken from m old new result given given' to r)
       → CardMayBeSaved new
   pub moment : (now result : ℕ) (new : CardHandle) (before r : PlainReport) → IsMomentCall old new result before r
       → RefusesMoment now old new result → FindsNoneDue now old new result → LetsFallDue now old new result r → CardMayBeSaved new
-  pub lengths : (l : Lengths) (result : ℕ) (new : CardHandle) → IsTimersCall old new result
-      → (is_timed old ≡ true → IfSome (first_out_of_range l) (λ _. (result ≡ 21) × (card_of new ≡ card_of old)))
-      → (first_out_of_range l ≡ None → (m : Card) (c : Clock) → TimersStandIn (timers_of old) m c → (result ≡ 0) × TimersStandIn (timers_of new) m (with_lengths l c))
+  pub lengths : (l : PlainLengths) (result : ℕ) (new : CardHandle) → IsTimersCall old new result
+      → (is_timed old ≡ true → IfSome (lengths_fault l) (λ wrong. (result ≡ wrong) × (card_of new ≡ card_of old)))
+      → (lengths_fault l ≡ None → (m : Card) (c : Clock) → TimersStandIn (timers_of old) m c → (result ≡ 0) × TimersStandIn (timers_of new) m (with_lengths (lengths_in l) c))
       → CardMayBeSaved new
   pub unchanged : (new : CardHandle) → card_of new ≡ card_of old → CardMayBeSaved new
 

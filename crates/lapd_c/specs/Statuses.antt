@@ -74,6 +74,9 @@ bad_reading = 45
 abbrev pub bad_image : ℕ
 bad_image = 46
 
+abbrev pub bad_reserved : ℕ
+bad_reserved = 47
+
 -- Why a request was refused.
 abbrev pub refusal_status : Refusal → ℕ
 refusal_status BadTei = 1

@@ -1,6 +1,7 @@
 -- Timers and orders as numbers.
-use Rattle.std.specs.Prelude.{ℕ, nat_lt, ◌==◌, Result, Ok, Err, if◌then◌else◌}
-use Rattle.lapd_clock.specs.Timer.{Lengths}
+use Rattle.std.specs.Prelude.{ℕ, nat_lt, ◌==◌, Option, option_map, Result, Ok, Err, if◌then◌else◌}
+use Rattle.std.specs.Option.{option_or}
+use Rattle.lapd_clock.specs.Timer.{Lengths, first_out_of_range}
 use Rattle.lapd_frame.specs.declared.services.Service.{Service}
 use Rattle.lapd_frame.specs.declared.timers.Order.{Order}
 use Rattle.lapd_frame.specs.declared.timers.Order.TheVariants.{Start, Stop}
@@ -11,7 +12,8 @@ use Rattle.lapd_c.specs.declared.plain.timers.PlainOrder.{PlainOrder}
 use Rattle.lapd_c.specs.declared.plain.timers.PlainLengths.{PlainLengths}
 use Rattle.lapd_c.specs.declared.plain.timers.PlainTimer.{PlainTimer}
 use Rattle.lapd_c.specs.Services.{service_in}
-use Rattle.lapd_c.specs.Statuses.{wrong_tei, wrong_timer, wrong_order}
+use Rattle.lapd_c.specs.Reserved.{reserve_fault}
+use Rattle.lapd_c.specs.Statuses.{wrong_tei, wrong_time, wrong_timer, wrong_order}
 
 abbrev pub plain_timer : Timer → PlainTimer
 plain_timer (T200 service tei) = record { timer = 1; service = sapi_of service; tei = tei }
@@ -59,5 +61,12 @@ order_in p =
     else Err wrong_order
 
 -- How long timers run.
+abbrev pub lengths_given : ℕ → ℕ → ℕ → ℕ → Lengths
+lengths_given t200 t203 t201 t202 = record { t200 = t200; t203 = t203; t201 = t201; t202 = t202 }
+
 abbrev pub lengths_in : PlainLengths → Lengths
-lengths_in p = record { t200 = p.t200; t203 = p.t203; t201 = p.t201; t202 = p.t202 }
+lengths_in p = lengths_given p.t200 p.t203 p.t201 p.t202
+
+-- What is wrong with them: a length is out of range; else what is for a later version is not 0.
+abbrev pub lengths_fault : PlainLengths → Option ℕ
+lengths_fault p = option_or (option_map (λ _. wrong_time) (first_out_of_range (lengths_in p))) (reserve_fault p.reserved)

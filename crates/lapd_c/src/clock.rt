@@ -9,8 +9,8 @@ ghost use Rattle.lapd_c.specs.Clocks.{clock_of, IsClockCall, IsClockStart, IsHan
 
 use crate::lend::{or_answer, within};
 use crate::plain::{
-    NO_CLOCK, NO_MEMORY, NO_PLACE, NO_TIMER, OK, PlainConfig, PlainDue, PlainLengths, PlainOrder,
-    SECOND_START, WRONG_TIME,
+    NO_CLOCK, NO_MEMORY, NO_PLACE, NO_TIMER, OK, PlainConfig, PlainDue, PlainOrder, SECOND_START,
+    WRONG_TIME, lengths_of,
 };
 use crate::slot::ClockSlot;
 use lapd_clock::Clock;
@@ -125,13 +125,7 @@ pub extern "C" fn lapd_clock_set_lengths(
     ensures { IsClockCall (lengths_status (lengths_given t200 t203 t201 t202)) (after_lengths (lengths_given t200 t203 t201 t202)) handle.old handle.new result }
 {
     let clock = or_answer!(handle.clock(), NO_CLOCK);
-    let lengths = PlainLengths {
-        t200,
-        t203,
-        t201,
-        t202,
-    };
-    let lengths = or_answer!(lengths.read());
+    let lengths = or_answer!(lengths_of(t200, t203, t201, t202));
     clock.set_lengths(lengths);
     OK
 }
@@ -193,6 +187,7 @@ pub extern "C" fn lapd_clock_due(handle: &mut ClockHandle, now: u64, due: &mut P
     let (line, timer) = or_answer!(clock.due(now), NO_TIMER);
     due.line = line as u32;
     due.timer.show(timer);
+    due.reserved = [0; 9];
     OK
 }
 

@@ -1,7 +1,7 @@
 //! What happens at a card of either kind: a timer that expires, a request.
 
 ghost use Rattle.std.specs.Prelude.{◌≡◌, ◌≢◌, None};
-ghost use Rattle.lapd_c.specs.{Called, card_of, expire_asked, IsHandle, refused_place, request_asked, served_card};
+ghost use Rattle.lapd_c.specs.{Called, card_of, expire_asked, IsHandle, named_in, refused_place, request_asked, served_card};
 ghost use Rattle.lapd_c.specs.Statuses as status;
 
 use crate::card::CardHandle;
@@ -34,7 +34,7 @@ pub extern "C" fn lapd_expire(
     let mut told = BareReport::nothing();
     kept.timed.expire(line, timer, &mut told);
     report.show(&told, None);
-    kept.tell_reopened(line, report);
+    kept.tell_reopened(line, None, report);
     OK
 }
 
@@ -59,7 +59,7 @@ pub extern "C" fn lapd_request(
     match kept.timed.request(line, asked, &mut told) {
         Ok(()) => {
             report.show(&told, None);
-            kept.settle(line, report);
+            kept.settle(line, named_in(request, tei), report);
             OK
         }
         Err(why) => {
@@ -68,6 +68,13 @@ pub extern "C" fn lapd_request(
             status
         }
     }
+}
+
+// The TEI of a request of a link, or of one to remove a TEI.
+fn named_in(request: u8, tei: u8) -> Option<u8>
+    ensures { result ≡ named_in request tei }
+{
+    matches!(request, 1 | 2 | DATA | 6 | 8 | 9 | 10).then_some(tei)
 }
 
 // The place of the link whose queue had no room for what was to be sent.

@@ -1,6 +1,6 @@
 //! Octets taken and given in turn.
 
-ghost use Rattle.std.specs.Prelude.{◌≡◌, ◌≢◌, ◌<◌, ◌*◌, true, false, length};
+ghost use Rattle.std.specs.Prelude.{◌≡◌, ◌≢◌, ◌<◌, ◌*◌, true, false, length, None};
 ghost use Rattle.std.specs.Option.{option_copied};
 ghost use Rattle.lapd_c.specs.{card_of, Exchanges, is_exchange, IsCallOf, IsHandle, OctetsWithLine, of_octets};
 ghost use Rattle.lapd_c.specs.{octet_of, step_event, tells_nothing, told_at, told_beside, with_step};
@@ -34,7 +34,7 @@ pub extern "C" fn lapd_exchange(
     report: &mut PlainReport,
 ) -> u32
     requires { IsHandle handle.old }
-    ensures call { IsCallOf of_octets line handle.old handle.new result report.old report.new }
+    ensures call { IsCallOf of_octets line None handle.old handle.new result report.old report.new }
     ensures unchanged { result ≢ status.ok → (card_of handle.new ≡ card_of handle.old) × (given.new ≡ given.old) × (steps.new ≡ steps.old) }
     ensures wrong_length { OctetsWithLine line handle.old (λ m. is_exchange taken.now given.old steps.old ≡ false → result ≡ status.wrong_length) }
     ensures exchanged { OctetsWithLine line handle.old (λ m. is_exchange taken.now given.old steps.old ≡ true
@@ -45,7 +45,7 @@ pub extern "C" fn lapd_exchange(
         return WRONG_LENGTH;
     }
     exchange(&mut kept.timed, line, taken, given, steps, report);
-    kept.settle(line, report);
+    kept.settle(line, None, report);
     OK
 }
 

@@ -38,7 +38,7 @@ pub extern "C" fn lapd_frame(
         return OK;
     }
     show_delivered(kept.timed.card().frames(), line, octets, &told, report);
-    kept.settle(line, report);
+    kept.settle(line, None, report);
     OK
 }
 
@@ -77,7 +77,7 @@ pub extern "C" fn lapd_frame_failed(
     let mut told = BareReport::nothing();
     kept.timed.failed(line, fault, &mut told);
     report.show(&told, None);
-    kept.settle(line, report);
+    kept.settle(line, None, report);
     OK
 }
 

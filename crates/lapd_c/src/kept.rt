@@ -38,16 +38,16 @@ impl KeptCard {
     }
 
     /// Ends a call of a line, in whose report the answer to an event is shown. If the card keeps its own timers, the report has
-    /// no orders, as they have been carried out. Then it tells as [`KeptCard::tell_reopened`].
+    /// no orders, as they have been carried out. Then it tells as [`KeptCard::tell_reopened`], with the TEI that the call names.
     #[inline(always)]
-    pub(crate) fn settle(&mut self, line: usize, report: &mut PlainReport)
-        ensures settles { Settles line self.old self.new report.new }
+    pub(crate) fn settle(&mut self, line: usize, named: Option<u8>, report: &mut PlainReport)
+        ensures settles { Settles line named self.old self.new report.new }
         ensures rest { report.new ≡ settled self.old.timed report.new report.old }
     {
         if self.timed.is_timed() {
             report.order_count = 0;
         }
-        self.tell_reopened(line, report);
+        self.tell_reopened(line, named, report);
     }
 
     /// Ends a call of a line whose event led to nothing but orders, and shows them: as a report that shows the orders, and then
@@ -59,7 +59,7 @@ impl KeptCard {
         orders: &ShortList<Order>,
         report: &mut PlainReport,
     )
-        ensures settles { Settles line self.old self.new report.new }
+        ensures settles { Settles line None self.old self.new report.new }
         ensures shown { Shows report.new (record nothing { orders = orders_by (keeps_timers self.old.timed) (listed orders.now) }) }
     {
         if self.timed.is_timed() {
@@ -67,7 +67,7 @@ impl KeptCard {
         } else {
             report.show_orders(orders);
         }
-        self.tell_reopened(line, report);
+        self.tell_reopened(line, None, report);
     }
 
     /// Ends a call that gave the next frame of a line, and shows that with its orders, as [`KeptCard::settle_orders`] shows
@@ -80,14 +80,14 @@ impl KeptCard {
         more: bool,
         report: &mut PlainReport,
     )
-        ensures settles { Settles line self.old self.new report.new }
+        ensures settles { Settles line None self.old self.new report.new }
         ensures shown { ShowsPull report.new true more (orders_by (keeps_timers self.old.timed) (listed orders.now)) }
     {
         report.show_begun(more);
         if !self.timed.is_timed() {
             report.add_orders(orders);
         }
-        self.tell_reopened(line, report);
+        self.tell_reopened(line, None, report);
     }
 
     /// The link at a place of a line waits for room, if there is one.
@@ -104,17 +104,18 @@ impl KeptCard {
         }
     }
 
-    /// Tells in the report of a call of a line which link has room again, if one that waits has, and that no timer fell due.
+    /// Tells in the report of a call of a line which link has room again, if one that waits has, that no timer fell due, and of
+    /// which TEI contents are given up.
     #[inline(always)]
-    pub(crate) fn tell_reopened(&mut self, line: usize, report: &mut PlainReport)
-        ensures settles { Settles line self.old self.new report.new }
+    pub(crate) fn tell_reopened(&mut self, line: usize, named: Option<u8>, report: &mut PlainReport)
+        ensures settles { Settles line named self.old self.new report.new }
         ensures rest { report.new ≡ with_reopened report.new report.old }
     {
         if !self.refused.any() {
-            return report.show_reopened(line, None);
+            return report.show_reopened(line, named, None);
         }
         let told = self.take_first(line);
-        report.show_reopened(line, told);
+        report.show_reopened(line, named, told);
     }
 
     // It stands apart, since mostly no link waits.

@@ -35,12 +35,12 @@ pub extern "C" fn lapd_octet(
     match kept.timed.hear(line, octet) {
         None => {
             report.show_nothing();
-            kept.tell_reopened(line, report);
+            kept.tell_reopened(line, None, report);
             OK
         }
         Some(told) => {
             show_ended(kept.timed.card(), line, &told, report);
-            kept.settle(line, report);
+            kept.settle(line, None, report);
             OK
         }
     }
@@ -76,7 +76,7 @@ pub extern "C" fn lapd_pull(
     let pulled = kept.timed.pull(line);
     *octet = pulled.octet;
     report.show_pull(pulled.begun, pulled.orders());
-    kept.settle(line, report);
+    kept.settle(line, None, report);
     OK
 }
 

@@ -2,10 +2,9 @@
 
 ghost use Rattle.std.specs.Prelude.{◌≡◌, ◌≤◌, ◌<◌, ◌⊎◌, false, true, None, IfSome};
 ghost use Rattle.model_card.specs.Card as machine;
-ghost use Rattle.lapd_clock.specs.Timer.{first_out_of_range};
 ghost use Rattle.model_timed.specs.Clock.{Clock, next_moment, with_lengths};
 ghost use Rattle.lapd_c.specs.{FindsNoneDue, IsHandle, IsMomentCall, IsQuestion, IsTimersCall, LetsFallDue, RefusesMoment, TellsMoment, TellsWord, TimersStandIn, WithMarks, card_of, changed_of, is_timed, of_any, timers_of};
-ghost use Rattle.lapd_c.specs.Timers.{lengths_in};
+ghost use Rattle.lapd_c.specs.Timers.{lengths_fault, lengths_in};
 ghost use Rattle.lapd_c.specs.Statuses as status;
 
 use crate::card::CardHandle;
@@ -53,7 +52,7 @@ fn fall_due(handle: &mut CardHandle, now: u64, report: &mut PlainReport) -> u32
     let mut told = BareReport::nothing();
     let (line, timer) = or_answer!(kept.timed.fall_due(&mut told), NO_TIMER);
     report.show(&told, None);
-    kept.settle(line, report);
+    kept.settle(line, None, report);
     report.show_expired(timer);
     OK
 }
@@ -106,10 +105,10 @@ pub extern "C" fn lapd_changed_at(
 pub extern "C" fn lapd_card_set_lengths(handle: &mut CardHandle, lengths: &PlainLengths) -> u32
     requires { IsHandle handle.old }
     ensures call { IsTimersCall handle.old handle.new result }
-    // A length that is out of range is refused.
-    ensures wrong_time { is_timed handle.old ≡ true
-        → IfSome (first_out_of_range (lengths_in lengths.now)) (λ _. (result ≡ status.wrong_time) × (card_of handle.new ≡ card_of handle.old)) }
-    ensures set { first_out_of_range (lengths_in lengths.now) ≡ None → (m : machine.Card) (c : Clock) → TimersStandIn (timers_of handle.old) m c
+    // A length that is out of range is refused, and what is for a later version, if it is not 0.
+    ensures wrong { is_timed handle.old ≡ true
+        → IfSome (lengths_fault lengths.now) (λ wrong. (result ≡ wrong) × (card_of handle.new ≡ card_of handle.old)) }
+    ensures set { lengths_fault lengths.now ≡ None → (m : machine.Card) (c : Clock) → TimersStandIn (timers_of handle.old) m c
         → (result ≡ status.ok) × TimersStandIn (timers_of handle.new) m (with_lengths (lengths_in lengths.now) c) }
 {
     lend!(kept of handle);

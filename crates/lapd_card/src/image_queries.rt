@@ -1,9 +1,9 @@
-//! What the owner of a card asks before it saves it and after it restored it: its configuration, how long its image is, and which
-//! timers run.
+//! What the owner of a card asks beside its events: its configuration, how long its image is, which TEIs and timers are at the
+//! places of a line, and in which states its links are.
 
 ghost use Rattle.std.specs.Prelude.{◌≡◌, ◌<◌, option_to_list, IfSome};
 ghost use Rattle.lapd_card.specs.Kinds.{config_of};
-ghost use Rattle.lapd_card.specs.Running.{own_timers};
+ghost use Rattle.lapd_card.specs.Running.{own_timers, states_at};
 ghost use Rattle.model_card.specs.Card as machine;
 ghost use Rattle.model_card.specs.Card.{line_at};
 ghost use Rattle.model_line.specs.Image.{timer_numbered};
@@ -64,5 +64,15 @@ impl<S: Shelf> FrameCard<S> {
         ensures few { IfSome result (λ tei. tei < 127) }
     {
         self.lines[line].tei_at(place)
+    }
+
+    /// The states of the two links of the TEI at a place of a line, that of call control first, by their numbers in Q.921: 4 to
+    /// 8. None where the place is free, or the table has no such place.
+    #[inline(always)]
+    pub fn states_at(&self, line: usize, place: usize) -> Option<(u8, u8)>
+        requires { line < line_count self.now }
+        ensures { (m : machine.Card) → FrameStands S.store self.now m → result ≡ states_at place (line_at line m) }
+    {
+        self.lines[line].states_at(place)
     }
 }

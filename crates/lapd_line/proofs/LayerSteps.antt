@@ -175,12 +175,18 @@ at_link_serves {e} {s} {t} {y = y} {has_frame} {service} {tei} {place} {number} 
         let told = exactly (λ n. TellsOf n new looked) (tells_now e.links.items (number_there service standing at exact) looks) e.config mine t (beside_links e m others) (machines m) has (stand others m st) in
         awake_set e.has_frame has_frame e.links.items new m.links (link_number place service) _ looked mine (exactly (λ n. Sets n looked e.has_frame has_frame) sets) served.terms has told st.has_frame
 
+-- what is asked of a link of the TEI at a place
+pub asked_there : {A : Type 0} (of_link : machine.Link → A) {e : LinkLayer} {s : Store} {others : List Owned} {m : Line} (service : Service) (tei : ℕ) {place number : ℕ} {x : Link} {value : A} → LayerStands e s others m → IsAt (places_of e.teis) place tei
+    → (place ≤ 8 → number ≡ link_number place service) → x ≡ get_or e.links.items number x → ((others : List Owned) (l : machine.Link) → LinkStands x s others l → value ≡ of_link l)
+    → value ≡ of_link (link_in m service place)
+asked_there of_link {e} {s} {others} {m} service tei {place} {number} st at named_so there h =
+    let taken = part (number_there service (others, m, st) at named_so) there e.config (beside_links e m others) m.links (links_part e s others m st) in
+    h taken.rest (machine_at m.links number) taken.stands ∙ ap (λ n. of_link (machine_at m.links n)) (numbered e s tei place (others, m, st) at named_so)
+
 -- what is asked of a link of a TEI on the line
 pub asked_of_link : {A : Type 0} (of_link : machine.Link → A) {e : LinkLayer} {s : Store} {others : List Owned} {m : Line} (service : Service) (tei : ℕ) {place number : ℕ} {x : Link} {value : A} → LayerStands e s others m → place_of tei (places_of e.teis) ≡ Some place
     → (place ≤ 8 → number ≡ link_number place service) → x ≡ get_or e.links.items number x → ((others : List Owned) (l : machine.Link) → LinkStands x s others l → value ≡ of_link l)
     → Some value ≡ option_map (λ place. of_link (link_in m service place)) (place_in m tei)
 asked_of_link of_link {e} {s} {others} {m} service tei {place} {number} st is named_so there h =
-    let at = (place_of-is (places_of e.teis) tei place is).1 in
-    let taken = part (number_there service (others, m, st) at named_so) there e.config (beside_links e m others) m.links (links_part e s others m st) in
-    ap Some (h taken.rest (machine_at m.links number) taken.stands ∙ ap (λ n. of_link (machine_at m.links n)) (numbered e s tei place (others, m, st) at named_so))
+    ap Some (asked_there of_link service tei st (place_of-is (places_of e.teis) tei place is).1 named_so there h)
     ∙ sym (ap (λ t. option_map (λ place. of_link (link_in m service place)) (place_of tei t.places)) st.management ∙ ap (option_map (λ place. of_link (link_in m service place))) is)

@@ -3,7 +3,9 @@ use Rattle.lapd_line.proofs.Vocabulary.{◌≡◌, ℕ, ◌<◌, List, [], ◌�
 use Rattle.std.proofs.Common.{append-nil}
 use Rattle.lapd_frame.specs.declared.timers.Timer.{Timer}
 use Rattle.lapd_frame.specs.declared.timers.Timer.TheVariants.{T201, T202}
-use Rattle.lapd_line.specs.Running.{own_timers, timers_of}
+use Rattle.lapd_frame.specs.declared.services.Service.TheVariants.{Call, Packet}
+use Rattle.lapd_line.specs.Running.{own_timers, states_at, timers_of}
+use Rattle.model_line.specs.Line.{state_in}
 use Rattle.lapd_line.specs.declared.managing.Managing.TheVariants as kind
 use Rattle.model_line.specs.Image.{timer_at, timer_numbered}
 use Rattle.model_link.specs.Image.{timer_of}
@@ -19,6 +21,12 @@ small_tei c m place sound = go (tei_at place m) refl
     go : (o : Option ℕ) → tei_at place m ≡ o → IfSome o (λ tei. tei < 127)
     go None is = tt
     go (Some tei) is = omega (arith, sound.management.table.range place tei is)
+
+-- the states of the links of a TEI
+pub states_there : (m : Line) (place tei call packet : ℕ) → tei_at place m ≡ Some tei → call ≡ state_in m Call place → packet ≡ state_in m Packet place → Some (call, packet) ≡ states_at place m
+states_there m place tei call packet at call_is packet_is =
+    (λ i. Some (call_is i, packet_is i))
+    ∙ sym (ap (λ (o : Option ℕ). cond {A = Option (ℕ × ℕ)} (is_some o) (Some (state_in m Call place, state_in m Packet place)) None) at)
 
 -- the timer of a link of a TEI
 pub timer_there : (e : LinkLayer) (s : Store) (others : List Owned) (m : Line) (number : ℕ) (x : Link) (result : Option Timer) → LayerStands e s others m → number < link_count e.config → (tei : ℕ) → tei_at (place_at number) m ≡ Some tei

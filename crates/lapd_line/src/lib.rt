@@ -10,7 +10,7 @@
 //! - `frame_line`: the calls: what is heard, a timer that expires, a request. `came`: what a controller's frames and faults are
 //!   heard as. `next_frame`: what goes out, and `outlet`, where to.
 //! - `queries`: the state of a link, how much room it has, and how many octets the line stores. `saved`: the line in an image;
-//!   `running`: its TEIs and timers, by places and numbers.
+//!   `running`: its TEIs, states and timers, by places and numbers.
 //! - `port`: the octets of a line; `line`: a line with its port.
 //! - `link_layer`: what the calls change: TEI management, links and units. `addressing`: what is heard. `expiries`: timers.
 //! - `managing`: TEI management, of the network's side or of a terminal.

@@ -1,14 +1,16 @@
-//! What of a line runs, and where: the TEIs at the places of the table, and the timers of their links and of the line.
+//! What of a line runs, and where: the TEIs at the places of the table, the states and the timers of their links, and the timers
+//! of the line.
 
 ghost use Rattle.std.specs.Prelude.{◌≡◌, ◌<◌, List, IfSome, option_to_list};
-ghost use Rattle.lapd_line.specs.Running.{own_timers, timers_of};
+ghost use Rattle.lapd_line.specs.Running.{own_timers, states_at, timers_of};
 ghost use Rattle.lapd_line.specs.{Owned, Store, config_of, link_count};
 ghost use Rattle.model_line.specs.Image.{timer_numbered};
 ghost use Rattle.model_line.specs.Line as machine;
 
 use crate::frame_line::FrameLine;
+use crate::link_layer::link_number;
 use crate::managing::Managing;
-use lapd_frame::Timer;
+use lapd_frame::{Service, Timer};
 
 impl FrameLine {
     ghost use Rattle.lapd_line.specs.Stands.{LineStands};
@@ -21,6 +23,19 @@ impl FrameLine {
             → IfSome result (λ tei. tei < 127) }
     {
         self.layer.teis.tei_at(place)
+    }
+
+    /// The states of the two links of the TEI at a place of the table, that of call control first, by their numbers in Q.921
+    /// (annex B): 4 to 8. None where the place is free, or the table has no such place.
+    #[inline(always)]
+    pub fn states_at(&self, place: usize) -> Option<(u8, u8)>
+        ensures { (store : Store) (others : List Owned) (m : machine.Line) → LineStands self.now store others m
+            → result ≡ states_at place m }
+    {
+        self.layer.teis.tei_at(place)?;
+        let call = self.layer.links.get(link_number(place, Service::Call))?;
+        let packet = self.layer.links.get(link_number(place, Service::Packet))?;
+        Some((call.state(), packet.state()))
     }
 
     /// The timer that a link runs, T200 or T203, by the number of the link: twice the place of its TEI, and 1 more for packet

@@ -21,8 +21,8 @@ table-reads like x y r s one other e =
 memory-reads : (reading : Reading) (places : Places) → Reads (IsMemoryOf reading places) (λ (x y : List Remembered). x ≡ y) (list_of remembered)
 memory-reads reading places x y r s one other e = list-read HasRi remembered remembered-read x y r s one.memory.numbers other.memory.numbers e
 
-check-reads : (places : Places) → Reads (λ now. IfSome now (IsSoundCheck places)) (λ (x y : Option Check). x ≡ y) check
-check-reads places x y r s one other e = check-read x y r s tt tt e
+check-reads : (reading : Reading) (places : Places) → Reads (λ now. IfSome now (IsSoundCheck reading places)) (λ (x y : Option Check). x ≡ y) check
+check-reads reading places x y r s one other e = check-read x y r s tt tt e
 
 due-reads : (reading : Reading) (places : Places) (now : Option Check) → Reads (IsDueOf reading places now) (λ (x y : List Bool). x ≡ y) due
 due-reads reading places now x y r s one other e = (bits-read x y (one.sound.each ∙ sym other.sound.each) (heads e), tails e)
@@ -73,8 +73,9 @@ kept2 like p m with =
     (subst (λ x. IsMemoryOf m.reading x m.remembered) with.1
     (record { memory = record { sound = saved.sound.memory; numbers = saved.remembered }; read = memory-as_read m.reading m.remembered m.to_check saved.sound.read }))
 
-kept3 : (like : Management) (p : Places) (all : List Remembered) (m : Management) → With2 like p all m → IfSome m.check (IsSoundCheck p)
-kept3 like p all m with = subst (λ x. IfSome m.check (IsSoundCheck x)) with.0.1 with.0.0.saved.sound.checked
+kept3 : (like : Management) (p : Places) (all : List Remembered) (m : Management) → With2 like p all m → IfSome m.check (IsSoundCheck like.reading p)
+kept3 like p all m with =
+    subst (λ x. IfSome m.check (IsSoundCheck x p)) with.0.0.reading (subst (λ x. IfSome m.check (IsSoundCheck m.reading x)) with.0.1 with.0.0.saved.sound.checked)
 
 kept4 : (like : Management) (p : Places) (all : List Remembered) (now : Option Check) (m : Management) → With3 like p all now m → IsDueOf like.reading p now m.to_check
 kept4 like p all now m with =
@@ -102,13 +103,13 @@ module _ (like : Management) where
         none-after management (With1 like p) (λ m. m.remembered) (list_of remembered) after2 (IsMemoryOf like.reading p) (λ m. refl) (kept2 like p) (memory-reads like.reading p) read none
 
     module _ (all : List Remembered) where
-      pub stop3 : {r2 : List ℕ} → HasNone check (λ now. IfSome now (IsSoundCheck p)) r2 → HasNone after2 (With2 like p all) r2
-      stop3 none = none-part after2 (With2 like p all) (λ m. m.check) check after3 (λ now. IfSome now (IsSoundCheck p)) (λ m. refl) (kept3 like p all) none
+      pub stop3 : {r2 : List ℕ} → HasNone check (λ now. IfSome now (IsSoundCheck like.reading p)) r2 → HasNone after2 (With2 like p all) r2
+      stop3 none = none-part after2 (With2 like p all) (λ m. m.check) check after3 (λ now. IfSome now (IsSoundCheck like.reading p)) (λ m. refl) (kept3 like p all) none
 
-      pub pass3 : {now : Option Check} {r2 r3 : List ℕ} → IsReadAs check (λ now. IfSome now (IsSoundCheck p)) now r2 r3 → HasNone after3 (With3 like p all now) r3
+      pub pass3 : {now : Option Check} {r2 r3 : List ℕ} → IsReadAs check (λ now. IfSome now (IsSoundCheck like.reading p)) now r2 r3 → HasNone after3 (With3 like p all now) r3
           → HasNone after2 (With2 like p all) r2
       pass3 read none =
-          none-after after2 (With2 like p all) (λ m. m.check) check after3 (λ now. IfSome now (IsSoundCheck p)) (λ m. refl) (kept3 like p all) (check-reads p) read none
+          none-after after2 (With2 like p all) (λ m. m.check) check after3 (λ now. IfSome now (IsSoundCheck like.reading p)) (λ m. refl) (kept3 like p all) (check-reads like.reading p) read none
 
       module _ (now : Option Check) where
         pub stop4 : {r3 : List ℕ} → HasNone due (IsDueOf like.reading p now) r3 → HasNone after3 (With3 like p all now) r3
@@ -128,19 +129,19 @@ joined part others new first then = first ∙ ap (λ (l : List ℕ). part ++ l) 
 
 -- All parts are there: so is the whole.
 module _ (like m : Management) (reading : m.reading ≡ like.reading) where
-  pub sound-read : IsTableOf like.places m.places → IsMemoryOf like.reading m.places m.remembered → IfSome m.check (IsSoundCheck m.places)
+  pub sound-read : IsTableOf like.places m.places → IsMemoryOf like.reading m.places m.remembered → IfSome m.check (IsSoundCheck like.reading m.places)
       → IsDueOf like.reading m.places m.check m.to_check → IsSoundQueue m.waiting → IsSound m
   sound-read table memory check due queue = record {
     table = table.sound;
     memory = memory.memory.sound;
-    checked = check;
+    checked = subst (λ r. IfSome m.check (IsSoundCheck r m.places)) (sym reading) check;
     due = due.sound;
     queue = queue;
     read = subst (λ r. IsAsRead r m.remembered m.to_check) (sym reading) (both-as_read like.reading m.remembered m.to_check memory.read due.read);
   }
 
   pub all-read : {r0 r1 r2 r3 r4 : List ℕ} (r5 : List ℕ) → IsReadAs table (IsTableOf like.places) m.places r0 r1 → IsReadAs (list_of remembered) (IsMemoryOf like.reading m.places) m.remembered r1 r2
-      → IsReadAs check (λ now. IfSome now (IsSoundCheck m.places)) m.check r2 r3 → IsReadAs due (IsDueOf like.reading m.places m.check) m.to_check r3 r4
+      → IsReadAs check (λ now. IfSome now (IsSoundCheck like.reading m.places)) m.check r2 r3 → IsReadAs due (IsDueOf like.reading m.places m.check) m.to_check r3 r4
       → IsReadAs (list_of information_of) IsQueue m.waiting r4 r5 → IsReadAs image (IsSavedOf like) m r0 r5
   all-read r5 t r c d q = record {
     saved = record {

@@ -11,7 +11,7 @@ pub use Rattle.lapd_frame.specs.declared.readings.Reading.{Reading}
 pub use Rattle.lapd_frame.specs.declared.readings.Reading.TheVariants.{AnnexB, Profile}
 pub use Rattle.lapd_frame.specs.Readings.{by_reading}
 pub use Rattle.model_teis.specs.declared.network.check.Check.{Check}
-pub use Rattle.model_teis.specs.declared.network.check.Period.TheVariants.{First, Second}
+pub use Rattle.model_teis.specs.declared.network.check.Period.TheVariants.{First, Second, Settling}
 pub use Rattle.model_teis.specs.network.Machine.{Management}
 pub use Rattle.model_teis.specs.declared.network.remembered.Remembered.{Remembered}
 pub use Rattle.model_teis.specs.declared.network.messages.Message.TheVariants.{IdentityAssigned, IdentityCheckRequest, IdentityDenied, IdentityRemove}

@@ -28,8 +28,7 @@ pub record IsShort (o : TeiOutcome) : Type 0 where
   pub notes : length (listed o.notes) ≤ 1
   pub orders : length (listed o.orders) ≤ 1
 
--- One to which the end of a check can be added, or its begin: it has no order yet, and one message was lost at most.
+-- One to which the end of a check can be added: it has no order yet.
 pub record IsOpen (o : TeiOutcome) : Type 0 where
   pub notes : length (listed o.notes) ≤ 1
   pub orders : listed o.orders ≡ []
-  pub lost : o.lost ≤ 1

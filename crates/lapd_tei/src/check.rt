@@ -8,7 +8,7 @@ mod saved;
 use model_teis::network::{Check, Period};
 pub(crate) use saved::{restored, save};
 
-// The check with one response more in its period.
+// The check with one response more in its period: with no more, while it settles.
 pub(crate) fn counted(check: Check) -> Check
     requires first { check.first ≤ 1 }
     requires second { check.second ≤ 1 }
@@ -23,6 +23,7 @@ pub(crate) fn counted(check: Check) -> Check
             second: check.second + 1,
             ..check
         },
+        Period::Settling => check,
     }
 }
 
@@ -33,6 +34,7 @@ pub(crate) fn responses(check: Check) -> u8
     match check.period {
         Period::First => check.first,
         Period::Second => check.second,
+        Period::Settling => 0,
     }
 }
 

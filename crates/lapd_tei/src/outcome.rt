@@ -12,7 +12,7 @@ pub struct TeiOutcome {
     pub change: Option<Change>,
     /// What is ordered of T201, or at a terminal of T202: at most one order.
     pub orders: ShortList<Order>,
-    /// How many messages were lost, as they found no room to wait: at most one, or two by annex B.
+    /// How many messages were lost, as they found no room to wait: at most one.
     pub lost: u8,
     /// Whether a message is one that is not served. Then nothing else has happened.
     pub unserved: bool,

@@ -104,10 +104,7 @@ impl Teis {
         ensures after { self.new ≡ after expiry self.old }
         ensures short { IsShort result }
     {
-        match self.check {
-            Some(check) => self.expire(check),
-            None => TeiOutcome::nothing(),
-        }
+        self.expire()
     }
 
     /// Puts a TEI on the line, at the lowest place that is free. The TEI is at most 126.
@@ -184,7 +181,7 @@ impl Teis {
         if self.queue.is_full() {
             return Err(Refusal::ControlFull);
         }
-        Ok(self.begin_check(tei, TeiOutcome::nothing()))
+        Ok(self.begin_check(tei))
     }
 
     /// Disowns a TEI that is not on the line, at most 126, or 127 for all TEIs (Q.921 clause 5.3.4): the terminals that still

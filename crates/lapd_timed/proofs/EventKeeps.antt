@@ -1,5 +1,5 @@
 -- Which links each event of a line leaves as they stand.
-use Rattle.std.proofs.Common.{◌≡◌, ◌≢◌, ◌⊎◌, inl, inr, ℕ, ◌/◌, ◌<◌, List, Option, Some, None, refl, sym, subst}
+use Rattle.std.proofs.Common.{◌≡◌, ℕ, ◌/◌, ◌<◌, List, Option, Some, None, refl, sym, subst}
 use Rattle.std.specs.Prelude.{slice_index, false}
 use Rattle.std.proofs.lemmas.Option.{none-some, same_Some}
 use Rattle.lapd_clock.specs.Timer.{Timer, T200, T203, T201, T202}
@@ -30,21 +30,17 @@ use Rattle.model_line.specs.Sides.{group_tei}
 use Rattle.model_line.specs.declared.config.Config.{Config}
 use Rattle.model_timed.specs.Changes.{standing}
 use Rattle.lapd_timed.specs.Touches.{touched_by, touched_by_timer}
-use Rattle.lapd_timed.specs.Named.{MayTouch, Names}
+use Rattle.lapd_timed.specs.Named.{Names}
+use Rattle.model_line.proofs.ProperAims.{heard_proper, expiry_proper, request_proper}
 use Rattle.lapd_timed.proofs.Touching.{IsFor, KeepsOthers, keeps-others, heard-for, came-names, timer-for, request-for, deactivated-for, granted-for}
 
 -- what is heard
-pub heard-keeps : (e : stream.Event) (tei : ℕ) → Names tei e → (c : Config) (l : Line) → tei ≢ 127 → KeepsOthers tei l (after c (hears e) l)
+pub heard-keeps : (e : stream.Event) (tei : ℕ) → Names tei e → (c : Config) (l : Line) → KeepsOthers tei c l (after c (hears e) l)
 unfolding after
-heard-keeps e tei names c l own = keeps-others c tei l (aim_of_heard c l e) (heard-for c l tei own e names)
+heard-keeps e tei names c l = keeps-others c tei l (aim_of_heard c l e) (heard_proper c l e) (heard-for c l tei e names)
 
-pub ended-keeps : (e : stream.Event) (tei : ℕ) → MayTouch tei e → (c : Config) (l : Line) → tei ≢ 127 → KeepsOthers tei l (after c (hears e) l)
-ended-keeps e tei (inl group) c l own = absurd (own group)
-ended-keeps e tei (inr names) c l own = heard-keeps e tei names c l own
-
-pub frame-keeps : (n201 : ℕ) (octets : List ℕ) (tei : ℕ) → (tei ≡ 127) ⊎ (tei ≡ slice_index octets 1 / 2) → (c : Config) (l : Line) → tei ≢ 127 → KeepsOthers tei l (after c (hears (came n201 octets)) l)
-frame-keeps n201 octets tei (inl group) c l own = absurd (own group)
-frame-keeps n201 octets tei (inr is) c l own = heard-keeps (came n201 octets) tei (subst (λ n. Names n (came n201 octets)) (sym is) (came-names n201 octets)) c l own
+pub frame-keeps : (n201 : ℕ) (octets : List ℕ) (tei : ℕ) → tei ≡ slice_index octets 1 / 2 → (c : Config) (l : Line) → KeepsOthers tei c l (after c (hears (came n201 octets)) l)
+frame-keeps n201 octets tei is c l = heard-keeps (came n201 octets) tei (subst (λ n. Names n (came n201 octets)) (sym is) (came-names n201 octets)) c l
 
 -- what is dropped
 pub dropped-keeps : (cause : Cause) (c : Config) (l : Line) (number : ℕ) → standing number (after c (hears (stream.dropped cause)) l) ≡ standing number l
@@ -52,20 +48,23 @@ unfolding after
 dropped-keeps cause c l number = refl
 
 -- a timer that expires
-pub expiry-keeps : (timer : Timer) (c : Config) (l : Line) → touched_by_timer timer ≢ 127 → KeepsOthers (touched_by_timer timer) l (after c (expiry timer) l)
+for-timer : (timer : Timer) (l : Line) → IsFor (touched_by_timer timer) l (aim_of_expiry timer l)
+for-timer (T200 service tei) l = timer-for l service tei link_timer.T200 (place_in l tei) refl
+for-timer (T203 service tei) l = timer-for l service tei link_timer.T203 (place_in l tei) refl
+for-timer T201 l = refl
+for-timer T202 l = refl
+
+pub expiry-keeps : (timer : Timer) (c : Config) (l : Line) → KeepsOthers (touched_by_timer timer) c l (after c (expiry timer) l)
 unfolding after
-expiry-keeps (T200 service tei) c l own = keeps-others c tei l (aim_of_expiry (T200 service tei) l) (timer-for l service tei link_timer.T200 (place_in l tei) refl)
-expiry-keeps (T203 service tei) c l own = keeps-others c tei l (aim_of_expiry (T203 service tei) l) (timer-for l service tei link_timer.T203 (place_in l tei) refl)
-expiry-keeps T201 c l own = absurd (own refl)
-expiry-keeps T202 c l own = absurd (own refl)
+expiry-keeps timer c l = keeps-others c (touched_by_timer timer) l (aim_of_expiry timer l) (expiry_proper c l timer) (for-timer timer l)
 
 -- a request
-module _ (l : Line) (tei : ℕ) (own : tei ≢ 127) where
+module _ (l : Line) (tei : ℕ) where
   of-link : (service : Service) (its : ℕ) (what : link.Request) → Some its ≡ Some tei → IsFor tei l (at_requested service its what (place_in l its))
   of-link service its what is = subst (λ n. IsFor n l (at_requested service its what (place_in l its))) (same_Some its tei is) (request-for l service its what (place_in l its) refl)
 
-  group : {X : Type 0} → Some group_tei ≡ Some tei → X
-  group is = absurd (own (sym (same_Some group_tei tei is)))
+  group : Some group_tei ≡ Some tei → tei ≡ group_tei
+  group is = sym (same_Some group_tei tei is)
 
   for-request : (r : Request) → touched_by r ≡ Some tei → IsFor tei l (aim_of_request r l)
   for-request (Establish service its) is = of-link service its link.Establish is
@@ -83,10 +82,10 @@ module _ (l : Line) (tei : ℕ) (own : tei ≢ 127) where
   for-request (VerifyTei its) is = group is
   for-request Down is = group is
 
-pub request-keeps : (r : Request) (tei : ℕ) → touched_by r ≡ Some tei → (c : Config) (l : Line) → tei ≢ 127 → KeepsOthers tei l (after c (request r) l)
+pub request-keeps : (r : Request) (tei : ℕ) → touched_by r ≡ Some tei → (c : Config) (l : Line) → KeepsOthers tei c l (after c (request r) l)
 unfolding after
-request-keeps r tei is c l own =
-    keeps-others c tei l (unless_refused (refusal c false r l) (aim_of_request r l)) (granted-for tei l (refusal c false r l) (aim_of_request r l) (for-request l tei own r is))
+request-keeps r tei is c l =
+    keeps-others c tei l (unless_refused (refusal c false r l) (aim_of_request r l)) (request_proper c l r) (granted-for tei l (refusal c false r l) (aim_of_request r l) (for-request l tei r is))
 
 -- and one of unit data
 unit-stays : (c : Config) (l : Line) (number : ℕ) (o : Option Refusal) (unit : UnitData) → standing number (of_aim c (unless_refused o (at_units unit)) l).line ≡ standing number l

@@ -18,6 +18,8 @@ pub mod Carried
 pub mod WaitsRead
 pub mod Marked
 pub mod TeisMarked
+pub mod PlacesKept
+pub mod PlacesMarked
 pub mod StatesSeen
 pub mod Touching
 pub mod Touched

@@ -164,8 +164,8 @@ line-noted lines links at now h g old card marks states few are all but stood th
     ])
 
 -- What is touched is some of all, or of a TEI.
-pub of-any : (lines links line tei : ℕ) (old new : Card) → IsSameBut lines links line (IsTouched line tei new) old new → IsSameBut lines links line IsAny old new
+pub of-any : (lines links line tei : ℕ) (old new : Card) → IsSameBut lines links line (IsTouched line tei old new) old new → IsSameBut lines links line IsAny old new
 of-any lines links line tei old new but = record { config = but.config; others = λ other number there less not. but.others other number there less (λ same _. not same tt) }
 
-pub of-tei : (lines links line tei : ℕ) (old new : Card) → tei ≢ 127 → IsSameBut lines links line (IsTouched line tei new) old new → IsSameBut lines links line (IsOfTei line tei new) old new
-of-tei lines links line tei old new own but = record { config = but.config; others = λ other number there less not. but.others other number there less (λ same of. not same (of own)) }
+pub of-tei : (lines links line tei : ℕ) (old new : Card) → tei ≢ 127 → IsSameBut lines links line (IsTouched line tei old new) old new → IsSameBut lines links line (IsOfTei line tei new) old new
+of-tei lines links line tei old new own but = record { config = but.config; others = λ other number there less not. but.others other number there less (λ same of. not same (of.0 own)) }

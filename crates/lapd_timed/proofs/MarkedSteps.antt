@@ -39,7 +39,7 @@ noted-again timers m now marks stood = noted-same timers m m now marks refl (λ 
 
 -- An event of a card that touches a TEI; and one that touches none.
 module _ (m : Card) (reached : IsReached m) (e : frame.Event) (here : e.line < m.config.lines) (marks : Marks) where
-  pub event-marked : (card : Held Store) (mid new : Option CardTimers) (c : Clock) (tei : ℕ) → (tei ≢ 127 → KeepsOthers tei (line_at e.line m) (lines.after m.config e.what (line_at e.line m))) → FrameStands shelf_of card (machine.after e m)
+  pub event-marked : (card : Held Store) (mid new : Option CardTimers) (c : Clock) (tei : ℕ) → KeepsOthers tei m.config (line_at e.line m) (lines.after m.config e.what (line_at e.line m)) → FrameStands shelf_of card (machine.after e m)
       → AreNoted card e.line tei mid new → TimersStandIn new (machine.after e m) c → ChangesStandIn mid m marks → ChangesStandIn new (machine.after e m) (noted c.now (machine.after e m) marks)
   event-marked card mid new c tei keeps stands are_noted timed stood =
       are_noted.noted m (machine.after e m) c marks stands (λ of_lines links. touched m (reached-sound m reached) e here of_lines links tei keeps) timed stood

@@ -127,7 +127,7 @@ module _ (line : ℕ) (e : octet.Event) (at_line : e.line ≡ line) (may : octet
           (unmarked-event t.card.card r f here marks new.timers k (keeps t.card (on t s) f meant r here) (still t.card.card marks stood))
 
   pub octets-called-noted : (mid : Option CardTimers) → AreStillNoted old.timers mid → (tei : ℕ) → AreNoted now.frames line tei mid new.timers
-      → ((m : OctetCard) → CardStands card m → (f : frame.Event) → ports.meant e m ≡ Some f → tei ≢ 127 → KeepsOthers tei (line_at f.line m.card) (lines.after m.card.config f.what (line_at f.line m.card)))
+      → ((m : OctetCard) → CardStands card m → (f : frame.Event) → ports.meant e m ≡ Some f → KeepsOthers tei m.card.config (line_at f.line m.card) (lines.after m.card.config f.what (line_at f.line m.card)))
       → CalledOfOctets e r old new
   octets-called-noted mid still tei are_noted keeps = octets-called (λ t marks s stood. go t marks s stood (ports.meant e t.card) refl (octets-mean e t.card))
     where
@@ -169,7 +169,7 @@ module _ (line : ℕ) (e : frame.Event) (at_line : e.line ≡ line) (may : frame
   abbrev here-at : (t : frames.TimedCard) → FramesStand old t → e.line < t.card.config.lines
   here-at t s = subst (λ n. n < t.card.config.lines) (sym at_line) (there old.card (alone t.card) line s.card_stands within)
 
-  pub frames-called-noted : (mid : Option CardTimers) → AreStillNoted old.timers mid → (tei : ℕ) → ((c : Config) (l : Line) → tei ≢ 127 → KeepsOthers tei l (lines.after c e.what l)) → AreNoted now e.line tei mid new.timers
+  pub frames-called-noted : (mid : Option CardTimers) → AreStillNoted old.timers mid → (tei : ℕ) → ((c : Config) (l : Line) → KeepsOthers tei c l (lines.after c e.what l)) → AreNoted now e.line tei mid new.timers
       → CalledOfFrames e r old new
   frames-called-noted mid still tei keeps are_noted = frames-called (λ t marks s stood.
       event-marked t.card (reached old.timers t.card t.clock s.timers_stand) e (here-at t s) marks now mid new.timers (frames.after (happens e) t).clock tei (keeps t.card.config (line_at e.line t.card))
@@ -226,7 +226,7 @@ module _ {e : port.Event} {f : line_event.Event} (passes : IsPassedOn e f) (line
         (inside now _ (leads.stands (alone m) on)) (says (alone m) on) left;
   }
 
-  module _ (mid : Option CardTimers) (still : AreStillNoted timers mid) (tei : ℕ) (keeps : (c : Config) (l : Line) → tei ≢ 127 → KeepsOthers tei l (lines.after c f l)) (are_noted : AreNoted (frames_of now) line tei mid new) where
+  module _ (mid : Option CardTimers) (still : AreStillNoted timers mid) (tei : ℕ) (keeps : (c : Config) (l : Line) → KeepsOthers tei c l (lines.after c f l)) (are_noted : AreNoted (frames_of now) line tei mid new) where
     pub marked-frames : (m : Card) (c : Clock) (marks : Marks) → AnyStands card (alone m) → AreLeftIn (frame.at line f) timers m c → ChangesStandIn timers m marks
         → let u = with_event frames.frames (frame.at line f) (record { card = m; clock = c }) in ChangesStandIn new u.card (marked itself u marks)
     marked-frames m c marks on left stood =
@@ -284,7 +284,7 @@ module _ {e : port.Event} {f : line_event.Event} (passes : IsPassedOn e f) (line
           subst (λ (x : Card). ChangesStandIn new.timers x (noted k x marks)) (sym means.2) (stay (with_ports t.card) t.clock k marks s.card_stands s.timers_stand stood)
 
   -- and one that is granted touches the links of a TEI.
-  pub both-called-noted : (mid : Option CardTimers) → AreStillNoted old.timers mid → (tei : ℕ) → ((c : Config) (l : Line) → tei ≢ 127 → KeepsOthers tei l (lines.after c f l)) → AreNoted (frames_of now) line tei mid new.timers
+  pub both-called-noted : (mid : Option CardTimers) → AreStillNoted old.timers mid → (tei : ℕ) → ((c : Config) (l : Line) → KeepsOthers tei c l (lines.after c f l)) → AreNoted (frames_of now) line tei mid new.timers
       → CalledOfBoth (octet.at line e) (frame.at line f) r old new
   both-called-noted mid still tei keeps are_noted = both-called
       (λ t marks s stood. marked-octets passes line old.card now new.card be called.leads within old.timers new.timers orders carried says mid still tei keeps are_noted t.card t.clock marks s.card_stands

@@ -28,7 +28,7 @@ use Rattle.model_card.proofs.Reaching.{reached-sound}
 use Rattle.model_card.proofs.Steps.{has_lines, by_line, line_sound}
 use Rattle.model_timed.specs.Changes.{standing}
 use Rattle.lapd_timed.specs.Marked.{IsSameBut, IsTouched}
-use Rattle.lapd_timed.proofs.Touching.{KeepsOthers}
+use Rattle.lapd_timed.proofs.Touching.{KeepsOthers, Touches}
 
 -- A call for the next frame changes the state of no link.
 offered : (t : Terms) (x : Link) (fs : List ControlFrame) → (offer_among t fs (begun x)).link.state ≡ x.state
@@ -67,24 +67,23 @@ next-stays m reached at here number = next-keeps m.config (line_at at m) (line_s
 
 -- Of a card: the links of the TEI at that line may have changed, and no others.
 module _ (m : Card) (sound : IsSound m) (e : Event) (here : e.line < m.config.lines) (lines_are links : ℕ) where
-  module _ (tei : ℕ) (keeps : tei ≢ 127 → KeepsOthers tei (line_at e.line m) (lines.after m.config e.what (line_at e.line m))) where
+  module _ (tei : ℕ) (keeps : KeepsOthers tei m.config (line_at e.line m) (lines.after m.config e.what (line_at e.line m))) where
     module _ (other number : ℕ) where
       abbrev Left : Line → Type 0
-      Left l = (other ≡ e.line → (tei ≢ 127 → tei_at (place_at number) l ≡ Some tei) → ⊥) → standing number l ≡ standing number (line_at other m)
+      Left l = (other ≡ e.line → Touches tei (line_at other m) l number → ⊥) → standing number l ≡ standing number (line_at other m)
 
       served : e.line ≡ other → Left (lines.after m.config e.what (line_at other m))
-      served same not = elim (cases_eq tei 127) [
-        | inl group ↦ absurd (not (sym same) (λ own. absurd (own group)))
-        | inr own ↦ subst (λ n. KeepsOthers tei (line_at n m) (lines.after m.config e.what (line_at n m))) same (keeps own) number (λ at. not (sym same) (λ _. at))
-      ]
+      served same not =
+          subst (λ n. KeepsOthers tei m.config (line_at n m) (lines.after m.config e.what (line_at n m))) same keeps
+          (subst (λ n. line.IsSound m.config (line_at n m)) same (line_sound m e.line (has_lines m sound) here)) number (λ touches. not (sym same) touches)
 
       left : Left (line_at other (after e m))
       left = by_line m e other (has_lines m sound) here (λ b l a. Left l) (λ a _. refl) (λ full _. refl) (λ same room. served same)
 
-    pub touched : IsSameBut lines_are links e.line (IsTouched e.line tei (after e m)) m (after e m)
+    pub touched : IsSameBut lines_are links e.line (IsTouched e.line tei m (after e m)) m (after e m)
     touched = record {
       config = refl;
-      others = λ other number there less not. left other number (λ same of. not same (λ own. subst (λ n. tei_at (place_at number) (line_at n (after e m)) ≡ Some tei) same (of own)));
+      others = λ other number there less not. left other number (λ same of. not same (subst (λ n. Touches tei (line_at n m) (line_at n (after e m)) number) same of));
     }
 
   -- and where none of the line has, none has

@@ -30,5 +30,5 @@ AreStillNoted old new = (m : Card) (marks : Marks) → ChangesStandIn old m mark
 pub record AreNoted (card : Held Store) (line tei : ℕ) (before after : Option CardTimers) : Type 0 where
   pub there : is_some after ≡ is_some before
   pub stand : (m : Card) (c : Clock) → TimersStandIn before m c → TimersStandIn after m c
-  pub noted : (old new : Card) (c : Clock) (marks : Marks) → FrameStands shelf_of card new → ((lines links : ℕ) → IsSameBut lines links line (IsTouched line tei new) old new)
+  pub noted : (old new : Card) (c : Clock) (marks : Marks) → FrameStands shelf_of card new → ((lines links : ℕ) → IsSameBut lines links line (IsTouched line tei old new) old new)
       → TimersStandIn after new c → ChangesStandIn before old marks → ChangesStandIn after new (noted c.now new marks)

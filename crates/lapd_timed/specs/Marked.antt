@@ -1,7 +1,7 @@
 -- What is noted of the links of a card: their states, and since when they are so.
-use Rattle.std.specs.Prelude.{◌≡◌, ◌≢◌, ℕ, ◌+◌, ◌*◌, ◌<◌, ◌≤◌, ◌==◌, All, List, get_or, set, replicate, length, Some, if◌then◌else◌}
+use Rattle.std.specs.Prelude.{◌≡◌, ◌≢◌, ℕ, ◌+◌, ◌*◌, ◌<◌, ◌≤◌, ◌==◌, All, Bool, List, get_or, set, replicate, length, Some, is_some, not, if◌then◌else◌}
 use Rattle.model_card.specs.Card.{Card, line_at}
-use Rattle.model_line.specs.Line.{tei_at, place_at}
+use Rattle.model_line.specs.Line.{Line, tei_at, place_at}
 use Rattle.model_timed.specs.Changes.{Mark, Marks, standing, seen}
 
 -- As plain values: line by line, link by link.
@@ -34,6 +34,10 @@ pub record ArePast (count now : ℕ) (moments : List ℕ) : Type 0 where
 abbrev pub mark_in : HeldMarks → ℕ → ℕ → Mark
 mark_in h line number = record { state = get_or h.states (slot_in h line number) 0; moment = get_or h.moments (slot_in h line number) 0 }
 
+-- Whether a TEI was at the place of a link.
+abbrev pub has_state : HeldMarks → ℕ → ℕ → Bool
+has_state h line number = not (get_or h.states (slot_in h line number) 0 == 0)
+
 -- Each link of a line is in its one of some states at a moment, and the others stay as they are.
 pub record AreAllNoted (line now : ℕ) (states : List ℕ) (old new : HeldMarks) : Type 0 where
   pub links : new.links ≡ old.links
@@ -61,9 +65,15 @@ pub record IsSameBut (lines links line : ℕ) (Touched : ℕ → Type 0) (old ne
 abbrev pub IsOfTei : ℕ → ℕ → Card → ℕ → Type 0
 IsOfTei line tei card number = tei_at (place_at number) (line_at line card) ≡ Some tei
 
--- A link is one that an event of this TEI may have changed; where the TEI is the group's, the event is one of TEI management.
-abbrev pub IsTouched : ℕ → ℕ → Card → ℕ → Type 0
-IsTouched line tei card number = tei ≢ 127 → IsOfTei line tei card number
+-- Whether a TEI is at the place of a link.
+abbrev pub is_placed : ℕ → Line → Bool
+is_placed number l = is_some (tei_at (place_at number) l)
+
+-- A link is one that an event of this TEI may have changed. Where the TEI is the group's, the event is one of TEI management: a TEI
+-- has come to the link's place, or left it.
+abbrev pub IsTouched : ℕ → ℕ → Card → Card → ℕ → Type 0
+IsTouched line tei old new number =
+    (tei ≢ 127 → IsOfTei line tei new number) × (tei ≡ 127 → is_placed number (line_at line old) ≢ is_placed number (line_at line new))
 
 abbrev pub IsAny : ℕ → Type 0
 IsAny number = Unit {0}

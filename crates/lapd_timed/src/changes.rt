@@ -3,7 +3,7 @@
 ghost use Rattle.std.specs.Prelude.{◌≡◌, ℕ, ◌+◌, ◌*◌, ◌<◌, ◌≤◌, ◌++◌, All, length, get_or, IfOk, OnOk, OnErr};
 ghost use Rattle.lapd_image.specs.Puts.{Puts};
 ghost use Rattle.lapd_image.specs.Reads.{HasNone};
-ghost use Rattle.lapd_timed.specs.Marked.{marked_at, slot_in, unchanged, with_moment, AreAllNoted, ArePast};
+ghost use Rattle.lapd_timed.specs.Marked.{has_state, marked_at, slot_in, unchanged, with_moment, AreAllNoted, ArePast};
 ghost use Rattle.model_image.specs.Images.{changes};
 
 use lapd_image::{BadImage, Reader, put_number};
@@ -76,6 +76,15 @@ impl Changes {
         for number in 0..self.links {
             self.note(line, number, states[number], now);
         }
+    }
+
+    /// Whether a state was noted of a link: a TEI was at its place.
+    #[inline(always)]
+    pub(crate) fn has_state(&self, line: usize, number: usize) -> bool
+        requires { slot_in self.now line number < length self.now.states }
+        ensures { result ≡ has_state self.now line number }
+    {
+        self.states[line * self.links + number] != 0
     }
 
     /// Writes the moments at which states changed last into a room, in eight octets each, from a place on. It answers the place

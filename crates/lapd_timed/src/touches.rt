@@ -1,29 +1,29 @@
 //! Of which TEI the links are that an event may leave in another state.
 
-ghost use Rattle.std.specs.Prelude.{◌≡◌, ◌⊎◌, ◌/◌, slice_index, IfSome};
+ghost use Rattle.std.specs.Prelude.{◌≡◌, ◌/◌, slice_index, IfSome};
 ghost use Rattle.lapd_card.specs.{heard_of, request_of};
-ghost use Rattle.lapd_timed.specs.Named.{MayTouch};
+ghost use Rattle.lapd_timed.specs.Named.{Names};
 ghost use Rattle.lapd_timed.specs.Touches.{touched_by, touched_by_timer};
 
 use lapd_card::Request;
 use lapd_frame::{GROUP, Timer};
 use model_bits::Heard;
 
-/// That of a frame that comes, by its second octet.
+/// That of a frame that comes, by its second octet; 0 of one that has none, which is of no link.
 #[inline(always)]
 pub(crate) fn tei_of_frame(octets: &[u8]) -> u8
-    ensures { (result ≡ 127) ⊎ (result ≡ slice_index octets.now 1 / 2) }
+    ensures { result ≡ slice_index octets.now 1 / 2 }
 {
     match octets.get(1) {
         Some(second) => second >> 1,
-        None => GROUP,
+        None => 0,
     }
 }
 
 /// That of what an octet has ended.
 #[inline(always)]
 pub(crate) fn tei_of_heard(heard: Heard<'_>) -> u8
-    ensures { IfSome (heard_of heard.entry) (MayTouch result) }
+    ensures { IfSome (heard_of heard.entry) (Names result) }
 {
     match heard {
         Heard::Frame(octets) => tei_of_frame(octets),

@@ -1,5 +1,5 @@
 -- Which event of TEI management changes the table, and what is noted of it: each row.
-use Rattle.laws_line.proofs.Vocabulary.{arith, ◌≡◌, ℕ, ◌==◌, nat_le, Bool, true, false, cond, List, [], ◌∷◌, Option, Some, None, IfSome, refl, sym, subst, ap, ◌∙◌, true≢false, Note, Assigned, Removed, Doubled, Refusal, Period, First, Second, Reading, AnnexB, Profile, IdentityCheckRequest, IdentityDenied, IdentityRemove, Change, Gained, Left, heard_in, heard_of_type, responses_in}
+use Rattle.laws_line.proofs.Vocabulary.{arith, ◌≡◌, ℕ, ◌==◌, nat_le, Bool, true, false, cond, List, [], ◌∷◌, Option, Some, None, IfSome, refl, sym, subst, ap, ◌∙◌, true≢false, Note, Assigned, Removed, Doubled, Refusal, Period, First, Second, Settling, Reading, AnnexB, Profile, IdentityCheckRequest, IdentityDenied, IdentityRemove, Change, Gained, Left, heard_in, heard_of_type, responses_in}
 use Rattle.laws_line.proofs.Vocabulary.{Places, is_on, place_of, Management, next_checked, Step, no_room, send, lose_one, tei_note as note, unserved, leave, left, check_is, list_any, begin_next, end_check, stop_check, tei_read_as as read_as, check_is_due, remembered_in, assign_new, assign, assigns_for, answer_request, tei_request as request, request_anew, request_of, asks_for, ask_once, verify}
 use Rattle.laws_line.proofs.Vocabulary.{verify_beside, verify_later, responses, doubled, count, respond, is_among, respond_among, serve, removed}
 use Rattle.laws_line.proofs.Vocabulary.{is_unanswered, expire_period, expire_check, nothing_happens, join_at, take_off, is_checked, message, remove, course, IsSoundCheck, option_map, eqb-true, TeiCheck as Check, Course, tei_begun as begun, tei_counted as counted, TeiEvent as Event}
@@ -86,18 +86,18 @@ doubles octets tei m on =
     go (Some place) e = refl
 
 -- a response counts, or it is the second
-counts : (octets : List ℕ) (m : Management) (own : Check) (tei : ℕ) → own.tei ≡ tei → IsSoundCheck m.places own → Noted (message octets) (count tei (counted own) (begun m))
+counts : (octets : List ℕ) (m : Management) (own : Check) (tei : ℕ) → own.tei ≡ tei → IsSoundCheck m.reading m.places own → Noted (message octets) (count tei (counted own) (begun m))
 counts octets m own tei same sound =
     either (message octets) (nat_le 2 (responses (counted own))) (doubled tei) (check_is (Some (counted own))) (begun m)
     (λ twice. doubles octets tei m (ap (λ n. is_on n m.places) (sym same) ∙ sound.on_line)) (λ once. refl)
 
-responds : (octets : List ℕ) (tei : ℕ) (m : Management) (o : Option Check) → IfSome o (IsSoundCheck m.places) → Noted (message octets) (respond tei o (begun m))
+responds : (octets : List ℕ) (tei : ℕ) (m : Management) (o : Option Check) → IfSome o (IsSoundCheck m.reading m.places) → Noted (message octets) (respond tei o (begun m))
 responds octets tei m None sound = refl
 responds octets tei m (Some own) sound =
     either (message octets) (own.tei == tei) (count tei (counted own)) unserved (begun m)
     (λ same. counts octets m own tei (eqb-true own.tei tei same) sound) (λ other. refl)
 
-responds-among : (octets : List ℕ) (teis : Option (List ℕ)) (m : Management) (o : Option Check) → IfSome o (IsSoundCheck m.places) → Noted (message octets) (respond_among teis o (begun m))
+responds-among : (octets : List ℕ) (teis : Option (List ℕ)) (m : Management) (o : Option Check) → IfSome o (IsSoundCheck m.reading m.places) → Noted (message octets) (respond_among teis o (begun m))
 responds-among octets teis m None sound = refl
 responds-among octets teis m (Some own) sound =
     either (message octets) (is_among own.tei teis) (count own.tei (counted own)) unserved (begun m)
@@ -157,11 +157,12 @@ removes tei m on =
 
 ends : (own : Check) (period : Period) (m : Management) → is_on own.tei m.places ≡ true → Noted expiry (expire_period own period (begun m))
 ends own First m on = refl
+ends own Settling m on = refl
 ends own Second m on =
     either expiry (is_unanswered own) (removed own.tei) end_check (begun m) (λ unanswered. removes own.tei m on)
     (λ answered. staying expiry (begun m) (end_check (begun m)) (ending (begun m)) refl)
 
-expires : (m : Management) (o : Option Check) → IfSome o (IsSoundCheck m.places) → Noted expiry (expire_check o (begun m))
+expires : (m : Management) (o : Option Check) → IfSome o (IsSoundCheck m.reading m.places) → Noted expiry (expire_check o (begun m))
 expires m None sound = refl
 expires m (Some own) sound = ends own own.period m sound.on_line
 

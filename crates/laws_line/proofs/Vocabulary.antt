@@ -78,7 +78,7 @@ pub use Rattle.model_teis.specs.network.Sound.{IsSound as TeiIsSound, IsSoundChe
 pub use Rattle.model_teis.specs.Steps.{nothing_happens}
 pub use Rattle.model_teis.specs.network.Words.{Course, Step, begin_next, begun as tei_begun, check_is, check_is_due, end_check, leave, lose_one, no_room, note as tei_note, read_as as tei_read_as, send, stop_check, unserved}
 pub use Rattle.model_teis.specs.declared.network.check.Period.{Period}
-pub use Rattle.model_teis.specs.declared.network.check.Period.TheVariants.{First, Second}
+pub use Rattle.model_teis.specs.declared.network.check.Period.TheVariants.{First, Second, Settling}
 pub use Rattle.model_teis.specs.declared.network.messages.Message.{Message}
 pub use Rattle.model_teis.specs.declared.network.messages.Message.TheVariants.{IdentityCheckRequest, IdentityDenied, IdentityRemove}
 pub use Rattle.model_teis.specs.declared.changes.Change.{Change}

@@ -1,6 +1,6 @@
 -- What the observer of a line knows of its TEIs, and what of it changes as a check ends and a TEI leaves.
-use Rattle.laws_trace.proofs.Vocabulary.{◌≡◌, ℕ, ◌==◌, Bool, true, false, cond, not, List, [], ◌∷◌, ◌++◌, Option, Some, None, IfSome, option_map, option_map_or, refl, sym, ap, subst, filter, find, Note, T201, Places, IsSoundTable, Management, Remembered, Period, First, Second}
-use Rattle.laws_trace.proofs.Vocabulary.{Check, TeiCourse as Course, Checked, Managed, nothing_due, leaves, over, checks, is_of_teis}
+use Rattle.laws_trace.proofs.Vocabulary.{◌≡◌, ℕ, ◌==◌, Bool, true, false, cond, not, List, [], ◌∷◌, ◌++◌, Option, Some, None, IfSome, option_map, option_map_or, refl, sym, ap, subst, filter, find, Note, T201, Places, IsSoundTable, Management, Remembered, Period, First, Second, Settling}
+use Rattle.laws_trace.proofs.Vocabulary.{Check, TeiCourse as Course, Checked, Managed, nothing_due, leaves, over, settling, is_of_teis}
 use Rattle.laws_trace.proofs.Vocabulary.{is_of_line, end_check, leave}
 use Rattle.model_teis.specs.network.Rows as rows
 use Rattle.lapd_frame.specs.declared.timers.Order.TheVariants.{Start, Stop}
@@ -18,15 +18,22 @@ use Rattle.laws_trace.proofs.Vocabulary.{arith}
 abbrev pub is_second : Period → Bool
 is_second First = false
 is_second Second = true
+is_second Settling = false
+
+abbrev pub is_settling : Period → Bool
+is_settling First = false
+is_settling Second = false
+is_settling Settling = true
 
 abbrev pub earlier : Period → ℕ → Option Bool
 earlier First n = None
 earlier Second n = Some (not (n == 0))
+earlier Settling n = None
 
 abbrev pub seen_check : Check → Checked
-seen_check check = record { tei = check.tei; answered = not (rows.responses check == 0); before = earlier check.period check.first }
+seen_check check = record { tei = check.tei; settles = is_settling check.period; answered = not (rows.responses check == 0); before = earlier check.period check.first }
 
--- In the first period no answer is counted for the second.
+-- No answer is counted for the second period before that.
 abbrev pub InOrder : Check → Type 0
 InOrder check = is_second check.period ≡ false → check.second ≡ 0
 
@@ -76,7 +83,7 @@ module _ (on : List ℕ) (places : Places) (later : List ℕ) (x : Course) (k : 
   ends-by = grind (arith, next_checked, none-first, is_due)
 
   abbrev pub after : Option ℕ → Managed
-  after o = option_map_or (λ tei. checks tei None (record v { later = others tei later })) o (record v { check = None; orders = Stop T201 ∷ [] })
+  after o = option_map_or (λ tei. settling tei (record v { later = others tei later })) o (record v { check = None; orders = Stop T201 ∷ [] })
 
   -- What comes of it: the places stay, and the assignments.
   pub record Over (d : Managed) (y : Course) : Type 0 where
@@ -96,7 +103,7 @@ module _ (on : List ℕ) (places : Places) (later : List ℕ) (x : Course) (k : 
   }
   by-next (Some tei) is = record {
     next_later = others tei later;
-    is = ap (λ os. record (checks tei None (record v { later = others tei later })) { orders = filter is_of_line (os ++ Start T201 ∷ []) }) (sym none);
+    is = ap (λ os. record (settling tei (record v { later = others tei later })) { orders = filter is_of_line (os ++ Start T201 ∷ []) }) (sym none);
     known = record { on_is = k.on_is; placed = checked-next places later x.now.places x.now.to_check k.placed s tei is; order = λ first. refl };
     places_stay = refl;
     held_stays = refl;
@@ -148,7 +155,7 @@ abbrev pub noted : List Note → Managed → Managed
 noted ns w = record w { notes = ns }
 
 over-noted : (ns : List Note) (w : Managed) → noted ns (over w) ≡ over (noted ns w)
-over-noted ns w = grind (arith, find, among, checks, others, T201)
+over-noted ns w = grind (arith, find, among, settling, others, T201)
 
 pub leaves-noted : (ns : List Note) (tei : ℕ) (w : Managed) → noted ns (leaves tei w) ≡ leaves tei (noted ns w)
 leaves-noted ns tei w = grind (arith, others, over, over-noted)

@@ -1,6 +1,6 @@
 -- What the observer of a line knows of its TEIs is what TEI management has, and what is due by an event is what that tells.
 use Rattle.laws_trace.proofs.Vocabulary.{◌≡◌, ℕ, zero, suc, ◌≤◌, ◌+◌, ◌-◌, ◌*◌, ◌/◌, ◌%◌, ◌==◌, ◌&&◌, ◌||◌, Bool, true, false, true≢false, cond, not, List, [], ◌∷◌, length, drop, list_any, nat_le, ◌++◌, length-append, Option, Some, None, IfSome, option_map, option_map_or, refl, sym, ap, ◌∙◌, subst, arith, eq-eqb, nat_lt, find, range_with_len, Note, Places, place_of, Management, Remembered, Period}
-use Rattle.laws_trace.proofs.Vocabulary.{First, Second, Message}
+use Rattle.laws_trace.proofs.Vocabulary.{First, Second, Settling, Message}
 use Rattle.laws_trace.proofs.Vocabulary.{IdentityAssigned}
 use Rattle.laws_trace.proofs.Vocabulary.{IdentityDenied, IdentityRemove, heard_of_type, IsSoundCheck, free_place, free_tei-is, Config, eqb-true, ltb-true, ltb-false, Removed, Doubled, Check, TeiCourse as Course, tei_begun as begun, Checked, Managed, owes, gives, leaves, over, checks, responded, ran_out, managing_is_on as is_on}
 use Rattle.laws_trace.proofs.Vocabulary.{begin_check, end_check, leave, lose_one, no_room, send, unserved, false_from_ne_true}
@@ -19,7 +19,7 @@ use Rattle.laws_trace.proofs.ManagingPlaces.{ArePlaced, came-placed, later-place
 use Rattle.laws_trace.proofs.ManagingTables.{AreOn, free-fewer, none-free, comes-on}
 use Rattle.std.specs.Option.{option_and_then, unwrap_or}
 use Rattle.laws_trace.proofs.ManagingReads.{any-same, by-both, ends_once, ends-so, in-both, one-by-one, one-response, otherwise, seen_of}
-use Rattle.laws_trace.proofs.CheckEnds.{Follows, InOrder, Known, Leads, as_seen, earlier, is_second, known-leads, leaves-noted, leaving-led, leaving-own, led, noted, over-leads, seen_check}
+use Rattle.laws_trace.proofs.CheckEnds.{Follows, InOrder, Known, Leads, as_seen, earlier, is_second, is_settling, known-leads, leaves-noted, leaving-led, leaving-own, led, noted, over-leads, seen_check}
 
 find-same : (f g : ℕ → Bool) → ((x : ℕ) → f x ≡ g x) → (xs : List ℕ) → find f xs ≡ find g xs
 find-same f g h [] = refl
@@ -50,17 +50,14 @@ module _ (on : List ℕ) (places : Places) (later : List ℕ) (m : Management) (
   pub begins-check : (tei : ℕ) → Leads (checks tei None w) (begin_check tei (begun m))
   begins-check tei = known-leads on places later (begin_check tei (begun m)) (record { on_is = h; placed = p; order = λ first. refl })
 
-  pub there : (check : Check) → m.check ≡ Some check → IsSoundCheck m.places check
-  there check is = subst (λ o. IfSome o (IsSoundCheck m.places)) is s.checked
+  pub there : (check : Check) → m.check ≡ Some check → IsSoundCheck m.reading m.places check
+  there check is = subst (λ o. IfSome o (IsSoundCheck m.reading m.places)) is s.checked
 
   -- What is told and sent before the check ends, and the TEI leaves.
   abbrev removal : ℕ → Course → Course
   removal tei x = send (IdentityRemove tei) x
 
   module _ (check : Check) (is : m.check ≡ Some check) where
-    abbrev answered : Managed
-    answered = record w { check = Some (record { tei = check.tei; answered = true; before = earlier check.period check.first }) }
-
     own : rows.is_checked check.tei m.check ≡ true
     own = ap (rows.is_checked check.tei) is ∙ eq-eqb check.tei check.tei refl
 
@@ -94,17 +91,17 @@ module _ (on : List ℕ) (places : Places) (later : List ℕ) (m : Management) (
       told_twice : Managed
       told_twice = record (removes check.tei w) { notes = Doubled check.tei ∷ [] }
 
-      once : Option Bool → Managed
-      once before = record w { check = Some (record { tei = check.tei; answered = true; before = before }) }
+      once : Bool → Option Bool → Managed
+      once settles before = record w { check = Some (record { tei = check.tei; settles = settles; answered = true; before = before }) }
 
       in-first : (n : ℕ) → n ≤ 1 → check.period ≡ First
-          → Leads (cond (not (n == 0)) told_twice (once None)) ((cond (nat_le 2 (n + 1)) (rows.doubled check.tei) (check_is (Some (record check { period = First; first = n + 1 })))) (begun m))
+          → Leads (cond (not (n == 0)) told_twice (once false None)) ((cond (nat_le 2 (n + 1)) (rows.doubled check.tei) (check_is (Some (record check { period = First; first = n + 1 })))) (begun m))
       in-first zero few at = counts check is (record check { period = First; first = 1 }) (λ first. subst (λ o. IfSome o InOrder) is order (ap is_second at))
       in-first (suc zero) few at = doubles check is
       in-first (suc (suc n)) few at = absurd (omega (arith, few))
 
       in-second : (n : ℕ) → n ≤ 1
-          → Leads (cond (not (n == 0)) told_twice (once (earlier Second check.first))) ((cond (nat_le 2 (n + 1)) (rows.doubled check.tei) (check_is (Some (record check { period = Second; second = n + 1 })))) (begun m))
+          → Leads (cond (not (n == 0)) told_twice (once false (earlier Second check.first))) ((cond (nat_le 2 (n + 1)) (rows.doubled check.tei) (check_is (Some (record check { period = Second; second = n + 1 })))) (begun m))
       in-second zero few = counts check is (record check { period = Second; second = 1 }) (λ first. absurd (true≢false first))
       in-second (suc zero) few = doubles check is
       in-second (suc (suc n)) few = absurd (omega (arith, few))
@@ -113,27 +110,33 @@ module _ (on : List ℕ) (places : Places) (later : List ℕ) (m : Management) (
       one-of true u v x l = l
       one-of false u v x l = l
 
+      -- while it settles it stays as it is
+      stands : check.period ≡ Settling → Leads w (check_is (Some check) (begun m))
+      stands at = subst (λ o. Leads (record w { check = option_map seen_check o }) (check_is (Some check) (begun m))) (sym is) (counts check is check (subst (λ o. IfSome o InOrder) is order))
+
       by-count : (q : Period) → check.period ≡ q
-          → Leads (unwrap_or (cond (not (rows.responses (record check { period = q }) == 0)) (Some told_twice) (Some (once (earlier q check.first)))) w)
+          → Leads (unwrap_or (cond (is_settling q) (Some w) (cond (not (rows.responses (record check { period = q }) == 0)) (Some told_twice) (Some (once (is_settling q) (earlier q check.first))))) w)
           (rows.count check.tei (rows.counted (record check { period = q })) (begun m))
-      by-count First at = one-of (not (check.first == 0)) told_twice (once None) _ (in-first check.first (there check is).first at)
-      by-count Second at = one-of (not (check.second == 0)) told_twice (once (earlier Second check.first)) _ (in-second check.second (there check is).second)
+      by-count First at = one-of (not (check.first == 0)) told_twice (once false None) _ (in-first check.first (there check is).first at)
+      by-count Second at = one-of (not (check.second == 0)) told_twice (once false (earlier Second check.first)) _ (in-second check.second (there check is).second)
+      by-count Settling at = subst (λ q. Leads w (check_is (Some (record check { period = q })) (begun m))) at (stands at)
 
       go : (b : Bool) → (check.tei == tei) ≡ b
-          → Leads (unwrap_or (cond (not b) None (cond (seen_check check).answered (Some (record (removes tei w) { notes = Doubled tei ∷ [] })) (Some (record w { check = Some (record (seen_check check) { answered = true }) })))) w)
+          → Leads (unwrap_or (cond (not b) None (cond (seen_check check).settles (Some w) (cond (seen_check check).answered (Some (record (removes tei w) { notes = Doubled tei ∷ [] })) (Some (record w { check = Some (record (seen_check check) { answered = true }) }))))) w)
           ((cond b (rows.count tei (rows.counted check)) unserved) (begun m))
       go false other = none-due
       go true same =
-          subst (λ n. Leads (unwrap_or (cond (seen_check check).answered (Some (record (removes n w) { notes = Doubled n ∷ [] })) (Some (record w { check = Some (record (seen_check check) { answered = true }) }))) w) (rows.count n (rows.counted check) (begun m)))
+          subst (λ n. Leads (unwrap_or (cond (seen_check check).settles (Some w) (cond (seen_check check).answered (Some (record (removes n w) { notes = Doubled n ∷ [] })) (Some (record w { check = Some (record (seen_check check) { answered = true }) })))) w) (rows.count n (rows.counted check) (begun m)))
           (eqb-true check.tei tei same) (by-count check.period refl)
 
   module _ (c : Config) (read : m.reading ≡ c.reading) where
     by-period : (check : Check) → m.check ≡ Some check → (q : Period) → check.period ≡ q
-        → Leads (ran_out c w (record { tei = check.tei; answered = not (rows.responses (record check { period = q }) == 0); before = earlier q check.first })) (rows.expire_period check q (begun m))
+        → Leads (ran_out c w (record { tei = check.tei; settles = is_settling q; answered = not (rows.responses (record check { period = q }) == 0); before = earlier q check.first })) (rows.expire_period check q (begun m))
     by-period check is First at =
         let none : check.second ≡ 0 = subst (λ o. IfSome o InOrder) is order (ap is_second at) in
         subst (λ n. Leads (checks check.tei (Some (not (check.first == 0))) w) (rows.expire_period (record check { second = n }) First (begun m))) (sym none)
         (known-leads on places later (rows.expire_period (record check { second = 0 }) First (begun m)) (record { on_is = h; placed = p; order = λ e. absurd (true≢false e) }))
+    by-period check is Settling at = begins-check check.tei
     by-period check is Second at = by-answers (check.first == 0) (check.second == 0)
       where
         by-answers : (a b : Bool)
@@ -264,12 +267,28 @@ module _ (on : List ℕ) (places : Places) (later : List ℕ) (m : Management) (
 
     by-several : (octets : List ℕ) (o : Option Check) → m.check ≡ o
         → Serves (option_and_then (λ (check : Checked). cond (list_any (λ octet. octet / 2 == check.tei) octets) (responded check.tei w check) None) (option_map seen_check o)) (rows.respond_among (Some octets) o (begun m))
-    by-several octets o is = grind (arith, none-due, by-both, responded, rows.count, rows.counted, unserved, eq-eqb, responds-so)
+    by-several octets None is = none-due
+    by-several octets (Some own) is =
+        by-both (λ d f. Serves d (f (begun m))) (list_any (λ octet. octet / 2 == own.tei) octets) (responded own.tei w (seen_check own)) None (rows.count own.tei (rows.counted own)) unserved
+        (subst (λ b. Serves (responded own.tei w (seen_check own)) ((cond b (rows.count own.tei (rows.counted own)) unserved) (begun m))) (eq-eqb own.tei own.tei refl) (responds-so own.tei own is))
+        none-due
 
-    several-leads : (octets : List ℕ) (a b : Bool)
+    several-leads : (a b : Bool) (octets : List ℕ)
         → Serves (cond (a && b) (by_reading c.reading None (several w octets)) None)
         (by_reading m.reading (unserved (begun m)) (rows.respond_among (cond (a && b && nat_le 2 (length octets) && nat_le (length octets) 64 && is_extended octets) (Some octets) None) m.check (begun m)))
-    several-leads octets a b = grind (arith, in-both, unserved, none-due, nat_le, ends-same, responded, by-several, none-several, not-several)
+    several-leads false b octets = not-several
+    several-leads true false octets = not-several
+    several-leads true true octets =
+        in-both Serves m.reading c.reading read None (several w octets) (unserved (begun m)) (among (cond (nat_le 2 (length octets) && nat_le (length octets) 64 && is_extended octets) (Some octets) None)) none-due
+        (subst (λ e. Serves (cond (not (nat_le 2 (length octets) && nat_le (length octets) 64 && e)) None named) (among (cond (nat_le 2 (length octets) && nat_le (length octets) 64 && is_extended octets) (Some octets) None))) (sym (ends-same octets))
+        (otherwise (λ d o. Serves d (among o)) (nat_le 2 (length octets) && nat_le (length octets) 64 && is_extended octets) named None (Some octets) None (by-several octets m.check refl)
+        (subst (λ x. Serves None x) (sym (none-several None m.check refl)) none-due)))
+      where
+        among : Option (List ℕ) → Course
+        among teis = rows.respond_among teis m.check (begun m)
+
+        named : Option Managed
+        named = option_and_then (λ (check : Checked). cond (list_any (λ octet. octet / 2 == check.tei) octets) (responded check.tei w check) None) w.check
 
     -- What a terminal says.
     by-type-leads : (type ri action : ℕ) → Serves (seen_of c type ri action w) (rows.serve (heard_of_type type ri action) None (begun m))
@@ -285,8 +304,8 @@ module _ (on : List ℕ) (places : Places) (later : List ℕ) (m : Management) (
         let seen = seen_of c type (256 * high + low) (last / 2) w in
         subst (λ teis. Serves (cond (not (a == 0x0F && last % 2 == 1)) None seen) (rows.serve (cond (a == 0x0F && last % 2 == 1) (heard_of_type type (256 * high + low) (last / 2)) None) teis (begun m))) (sym (ap (λ b. cond b (Some (last ∷ [])) None) (one-response a type last)))
         (otherwise (λ d o. Serves d (rows.serve o None (begun m))) (a == 0x0F && last % 2 == 1) seen None (heard_of_type type (256 * high + low) (last / 2)) None (by-type-leads type (256 * high + low) (last / 2)) not-several)
-    serve-leads (a ∷ high ∷ low ∷ type ∷ last ∷ sixth ∷ more) = several-leads (last ∷ sixth ∷ more) (a == 0x0F) (type == 5)
-    serve-leads (a ∷ high ∷ low ∷ type ∷ []) = several-leads [] (a == 0x0F) (type == 5)
+    serve-leads (a ∷ high ∷ low ∷ type ∷ last ∷ sixth ∷ more) = several-leads (a == 0x0F) (type == 5) (last ∷ sixth ∷ more)
+    serve-leads (a ∷ high ∷ low ∷ type ∷ []) = several-leads (a == 0x0F) (type == 5) []
     serve-leads (a ∷ high ∷ low ∷ []) = not-several
     serve-leads (a ∷ high ∷ []) = not-several
     serve-leads (a ∷ []) = not-several

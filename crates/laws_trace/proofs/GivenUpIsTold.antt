@@ -7,7 +7,12 @@ use Rattle.laws_trace.proofs.Vocabulary.{seen, Always, Event, IsSound, refusal, 
 use Rattle.model_line.proofs.Downs.{given_up as down_given_up}
 use Rattle.model_line.specs.Effect.{at_terminal}
 use Rattle.model_line.specs.Machine as lines
-use Rattle.laws_trace.specs.GivenUpIsTold.{asked_by, first_of, given_up, named_by, GivenUpIsTold}
+use Rattle.std.specs.Option.{option_or, unwrap_or}
+use Rattle.std.specs.Prelude.{zero, suc}
+use Rattle.std.proofs.lemmas.Bool.{ne_eqb}
+use Rattle.std.proofs.lemmas.Option.{none-some}
+use Rattle.lapd_frame.specs.declared.services.Service.TheVariants.{Call, Packet}
+use Rattle.laws_trace.specs.GivenUpIsTold.{asked_by, first_of, given_up, given_up_tei, named_by, GivenUpIsTold}
 use Rattle.laws_trace.specs.Outgoing.{loses}
 use Rattle.laws_trace.proofs.Addressed.{at-some-place}
 use Rattle.laws_trace.proofs.KeptOfLine.{lost-is, none-lost}
@@ -269,6 +274,42 @@ module _ (c : Config) (events : List CardEvent) (number : ℕ) (ranged : IsInRan
       ⊎_elim (λ none. inl (no-more service tei none)) (λ first. inr first)
       (noted-tei service tei what un (after_all (fresh c) events) number (sound-now c events number ranged all within service 0) (here-at c number ranged within service 0 events all))
 
+  and-false : (b : Bool) → (b && false) ≡ false
+  and-false true = refl
+  and-false false = refl
+
+  -- so the TEI that is told is that of a link that gives up a number
+  some-told : (service : Service) → (given_up_in service (moment_of c events number what).answer ≡ 0 → ⊥)
+      → ((given_up_in Call (moment_of c events number what).answer == 0) && (given_up_in Packet (moment_of c events number what).answer == 0)) ≡ false
+  some-told Call some = ap (λ b. b && (given_up_in Packet (moment_of c events number what).answer == 0)) (ne_eqb (given_up_in Call (moment_of c events number what).answer) 0 some)
+  some-told Packet some = ap (λ b. (given_up_in Call (moment_of c events number what).answer == 0) && b) (ne_eqb (given_up_in Packet (moment_of c events number what).answer) 0 some)
+      ∙ and-false (given_up_in Call (moment_of c events number what).answer == 0)
+
+  by-asked : (service : Service) (tei : ℕ) (o : Option ℕ) → asked_by what ≡ o
+      → (given_up c service tei number events what ≡ 0) ⊎ (unwrap_or (option_or o (first_of (notes_of (moment_of c events number what).answer))) 255 ≡ tei)
+  by-asked service tei None un = ⊎_elim (λ none. inl none) (λ first. inr (ap (λ o. unwrap_or o 255) first)) (noted-is service tei un)
+  by-asked service tei (Some by) named = by-event what refl
+    where
+      by-event : (e : Event) → what ≡ e → (given_up c service tei number events what ≡ 0) ⊎ (by ≡ tei)
+      by-event (request r) is = ⊎_elim (λ none. inl none) (λ same. inr (sym same)) (named-is service tei by r is (sym (ap asked_by is) ∙ named))
+      by-event (hears h) is = absurd (none-some by (sym (ap asked_by is) ∙ named))
+      by-event (expiry t) is = absurd (none-some by (sym (ap asked_by is) ∙ named))
+      by-event next is = absurd (none-some by (sym (ap asked_by is) ∙ named))
+
+  told-tei : (service : Service) (tei : ℕ)
+      → (given_up c service tei number events what ≡ 0) ⊎ (given_up_in service (moment_of c events number what).answer ≡ given_up c service tei number events what)
+      → (given_up c service tei number events what ≡ 0) ⊎ (given_up_tei what (moment_of c events number what).answer ≡ tei)
+  told-tei service tei (inl none) = inl none
+  told-tei service tei (inr tells) = go (given_up_in service (moment_of c events number what).answer) refl
+    where
+      go : (n : ℕ) → given_up_in service (moment_of c events number what).answer ≡ n
+          → (given_up c service tei number events what ≡ 0) ⊎ (given_up_tei what (moment_of c events number what).answer ≡ tei)
+      go zero none = inl (sym tells ∙ none)
+      go (suc n) some =
+          ⊎_elim (λ none. inl none)
+          (λ is. inr (ap (λ b. cond b 255 (unwrap_or (option_or (asked_by what) (first_of (notes_of (moment_of c events number what).answer))) 255))
+          (some-told service (λ none. omega (arith, some, none))) ∙ is)) (by-asked service tei (asked_by what) refl)
+
 pub given-up-is-told : Always GivenUpIsTold
 given-up-is-told c events number ranged all within service what =
     let t = its-tells c events number ranged all within service what in
@@ -278,6 +319,6 @@ given-up-is-told c events number ranged all within service what =
       told = λ tei. ⊎_elim (λ none. inl (gone tei ∙ ap (λ b. cond b (kept_by tei) 0) none)) (λ x. inr (x.1 ∙ sym (gone tei ∙ ap (λ b. cond b (kept_by tei) 0) x.0))) (t.0 tei);
       given = ⊎_elim (λ none. inl none) (λ x. inr (x.0, gone x.0 ∙ ap (λ b. cond b (kept_by x.0) 0) x.1.0 ∙ sym x.1.1)) t.1;
       whose = λ tei other by. whose-is c events number ranged all within what service other tei by;
-      named = λ tei by r. named-is c events number ranged all within what service tei by r;
-      noted = λ tei. noted-is c events number ranged all within what service tei;
+      named = λ tei. told-tei c events number ranged all within what service tei
+          (⊎_elim (λ none. inl (gone tei ∙ ap (λ b. cond b (kept_by tei) 0) none)) (λ x. inr (x.1 ∙ sym (gone tei ∙ ap (λ b. cond b (kept_by tei) 0) x.0))) (t.0 tei));
     }

@@ -63,7 +63,7 @@ pub use Rattle.model_teis.specs.network.Sound.{IsSoundCheck}
 pub use Rattle.model_teis.specs.network.Words.{Course as TeiCourse, begin_check, begun as tei_begun, end_check, leave, lose_one, no_room, send, unserved}
 pub use Rattle.model_teis.specs.declared.network.check.Check.{Check}
 pub use Rattle.model_teis.specs.declared.network.check.Period.{Period}
-pub use Rattle.model_teis.specs.declared.network.check.Period.TheVariants.{First, Second}
+pub use Rattle.model_teis.specs.declared.network.check.Period.TheVariants.{First, Second, Settling}
 pub use Rattle.model_teis.specs.declared.network.messages.Message.{Message}
 pub use Rattle.model_teis.specs.declared.network.messages.Message.TheVariants.{IdentityAssigned, IdentityDenied, IdentityRemove}
 pub use Rattle.model_teis.specs.declared.changes.Change.{Change}
@@ -132,7 +132,7 @@ pub use Rattle.laws_trace.specs.Deliveries.{WhatIsToldWasHeard, brings_next, is_
 pub use Rattle.laws_trace.specs.FramesAreDue.{DueIsGiven, GivenIsDue, may_go, offers, text}
 pub use Rattle.laws_trace.specs.FramesAreRead.{FramesAreOctets, FramesAreRead, GivesOctets, IsSpelled, contents_given}
 pub use Rattle.laws_trace.specs.LinkFrames.{brought, fault_of, faulty_long, frame_of, is_for, is_frame_of, its_frame, malformed, reads}
-pub use Rattle.laws_trace.specs.Managing.{manages, Checked, Managed, by_event as managing_by_event, by_message as message_served, checks, due, gives, grants, is_on as managing_is_on, leaves, led, managed_after, may_check, none_on, nothing_due, over, owes, ran_out, responded}
+pub use Rattle.laws_trace.specs.Managing.{manages, Checked, Managed, by_event as managing_by_event, by_message as message_served, checks, due, gives, grants, is_on as managing_is_on, leaves, led, managed_after, may_check, none_on, nothing_due, over, owes, ran_out, responded, settling}
 pub use Rattle.laws_trace.specs.News.{NewsIsTold, brings, given_up, is_news, is_sabme, is_xid, releases, wrong, wrong_frame, wrong_number}
 pub use Rattle.laws_trace.specs.Observer.{Observed, View, anew, at_first, awaits, by_event, by_expiry as observer_by_expiry, by_frame as observer_by_frame, by_heard, by_request as observer_by_request, by_t200, enquires, enters, in_state, is_outstanding, moment_of, steps, view_behind, view_of, views, while_down, while_up}
 pub use Rattle.laws_trace.specs.Outgoing.{Outgoing, data_granted, is_empty, keeps, nothing_yet, outgoing_of, still_owes, watches, went_on, waits as outgoing_waits}

@@ -1,11 +1,13 @@
 -- What is given up is told. `Outgoing` defines what a link keeps: what it is granted, and is neither acknowledged nor given up.
-use Rattle.std.specs.Prelude.{◌≡◌, ℕ, ◌||◌, ◌&&◌, not, ◌⊎◌, List, [], ◌∷◌, length, Option, Some, None, if◌then◌else◌}
+use Rattle.std.specs.Prelude.{◌≡◌, ℕ, ◌==◌, ◌||◌, ◌&&◌, not, ◌⊎◌, List, [], ◌∷◌, length, Option, Some, None, if◌then◌else◌}
+use Rattle.std.specs.Option.{option_or, unwrap_or}
 use Rattle.lapd_frame.specs.declared.notes.Note.{Note}
 use Rattle.lapd_frame.specs.declared.notes.Note.TheVariants as note
 use Rattle.lapd_frame.specs.declared.services.Service.{Service}
+use Rattle.lapd_frame.specs.declared.services.Service.TheVariants.{Call, Packet}
 use Rattle.model_line.specs.declared.config.Config.{Config}
 use Rattle.model_line.specs.Event as line_event
-use Rattle.model_line.specs.Event.{request}
+use Rattle.model_line.specs.Event.{Answer, request}
 use Rattle.model_line.specs.Request.{Request, Establish, Release, Data, SetBusy, ClearBusy, Deactivate, Remove}
 use Rattle.model_card.specs.Event.{Event}
 use Rattle.laws_line.specs.Frames.{given_up_in}
@@ -58,9 +60,15 @@ abbrev pub first_of : List Note → Option ℕ
 first_of [] = None
 first_of (n ∷ ns) = tei_of n
 
+-- The TEI that is told with what is given up: that which a request names; else that of the first note; 255 if nothing is given up
+-- (profile).
+abbrev pub given_up_tei : line_event.Event → Answer → ℕ
+given_up_tei what answer =
+    if (given_up_in Call answer == 0) && (given_up_in Packet answer == 0) then 255
+    else unwrap_or (option_or (asked_by what) (first_of (notes_of answer))) 255
+
 -- Of each service an event tells as many as one link gives up, and none only if no link does (profile). All links that give
--- up contents by one event are of one TEI, whatever their services. If a request names a TEI, they are of this one. Else
--- the first note of the answer names their TEI.
+-- up contents by one event are of one TEI, whatever their services. This TEI is told.
 pub record TellsGivenUp (c : Config) (events : List Event) (number : ℕ) (service : Service) (what : line_event.Event) : Type 0 where
   pub told : (tei : ℕ) → (given_up c service tei number events what ≡ 0)
       ⊎ (given_up_in service (moment_of c events number what).answer ≡ given_up c service tei number events what)
@@ -68,9 +76,8 @@ pub record TellsGivenUp (c : Config) (events : List Event) (number : ℕ) (servi
       ⊎ ((tei : ℕ) × (given_up c service tei number events what ≡ given_up_in service (moment_of c events number what).answer))
   pub whose : (tei : ℕ) (other : Service) (by : ℕ) → (given_up c service tei number events what ≡ 0)
       ⊎ (given_up c other by number events what ≡ 0) ⊎ (tei ≡ by)
-  pub named : (tei by : ℕ) (r : Request) → what ≡ request r → named_by r ≡ Some by → (given_up c service tei number events what ≡ 0) ⊎ (tei ≡ by)
-  pub noted : (tei : ℕ) → asked_by what ≡ None
-      → (given_up c service tei number events what ≡ 0) ⊎ (first_of (notes_of (moment_of c events number what).answer) ≡ Some tei)
+  pub named : (tei : ℕ) → (given_up c service tei number events what ≡ 0)
+      ⊎ (given_up_tei what (moment_of c events number what).answer ≡ tei)
 
 abbrev pub GivenUpIsTold : Config → List Event → ℕ → Type 0
 GivenUpIsTold c events number = (service : Service) (what : line_event.Event) → TellsGivenUp c events number service what

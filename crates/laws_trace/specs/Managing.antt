@@ -24,10 +24,11 @@ use Rattle.laws_trace.specs.LinkFrames.{frame_of}
 use Rattle.laws_trace.specs.ManagingTerminal as terminal
 use Rattle.laws_trace.specs.ManagingTerminal.{OfTerminal, own_on, teis_of, with_tei, without_tei, is_message}
 
--- A check of a TEI: whether one of its terminals has answered since they were asked; and, once they were asked again, whether
--- one had before (clause 5.3.3.2).
+-- A check of a TEI: whether it settles, and its terminals are not asked yet; whether one of them has answered since they were
+-- asked; and, once they were asked again, whether one had before (clause 5.3.3.2).
 pub record Checked : Type 0 where
   pub tei : ℕ
+  pub settles : Bool
   pub answered : Bool
   pub before : Option Bool
 
@@ -108,7 +109,7 @@ may_check tei w = is_on tei w && not (is_some w.check)
 
 abbrev pub checks : ℕ → Option Bool → Managed → Managed
 checks tei before w =
-    record (owes (IdentityCheckRequest tei) w) { check = Some (record { tei = tei; answered = false; before = before }); orders = Start T201 ∷ [] }
+    record (owes (IdentityCheckRequest tei) w) { check = Some (record { tei = tei; settles = false; answered = false; before = before }); orders = Start T201 ∷ [] }
 
 -- A terminal asks for a check of a TEI on the line (clause 5.3.5). By annex B it is asked at once while another is checked,
 -- unless that is owed, and the TEI is to be checked later; in the profile that is not served.
@@ -124,14 +125,18 @@ verified c tei w =
     if not (is_on tei w) then None
     else option_map_or (λ (check : Checked). if check.tei == tei then None else by_reading c.reading None (Some (defers tei w))) w.check (Some (checks tei None w))
 
--- A check is over. Of the TEIs to be checked later the one at the lowest place is checked next; if none is, T201 is over, too.
+-- A check is over. Of the TEIs to be checked later the one at the lowest place is checked next, which settles first: T201 runs,
+-- and nothing is asked, so that an answer to what was asked before is not taken for one (profile). If none is, T201 is over, too.
+abbrev pub settling : ℕ → Managed → Managed
+settling tei w = record w { check = Some (record { tei = tei; settles = true; answered = false; before = None }); orders = Start T201 ∷ [] }
+
 abbrev pub others : ℕ → List ℕ → List ℕ
 others tei teis = filter (λ other. not (other == tei)) teis
 
 abbrev pub over : Managed → Managed
 over w =
     let next = find (λ tei. list_any (λ later. later == tei) w.later) (teis_of w.places) in
-    option_map_or (λ tei. checks tei None (record w { later = others tei w.later })) next (record w { check = None; orders = Stop T201 ∷ [] })
+    option_map_or (λ tei. settling tei (record w { later = others tei w.later })) next (record w { check = None; orders = Stop T201 ∷ [] })
 
 -- A TEI that leaves takes its assignment and its checks with it (clause 5.3.4).
 abbrev pub leaves : ℕ → Managed → Managed
@@ -144,10 +149,12 @@ leaves tei w =
 abbrev pub removes : ℕ → Managed → Managed
 removes tei w = leaves tei (owes (IdentityRemove tei) w)
 
--- A second answer says that two terminals have the TEI, which is removed (clauses 5.3.3.2 and 5.3.4).
+-- A second answer says that two terminals have the TEI, which is removed (clauses 5.3.3.2 and 5.3.4). One that comes while the
+-- check settles says nothing.
 abbrev pub responded : ℕ → Managed → Checked → Option Managed
 responded tei w check =
     if not (check.tei == tei) then None
+    else if check.settles then Some w
     else if check.answered then Some (record (removes tei w) { notes = Doubled tei ∷ [] })
     else Some (record w { check = Some (record check { answered = true }) })
 
@@ -160,10 +167,11 @@ several w octets =
     else option_and_then (λ (check : Checked). if list_any (λ octet. octet / 2 == check.tei) octets then responded check.tei w check else None) w.check
 
 -- As T201 runs out, they are asked once more; and then the check is over, and where none answered, the TEI leaves, of
--- which no terminal is told in the profile (clauses 5.3.3.2 and 5.3.4.2).
+-- which no terminal is told in the profile (clauses 5.3.3.2 and 5.3.4.2). Once a check has settled they are asked.
 abbrev pub ran_out : Config → Managed → Checked → Managed
 ran_out c w check =
-    option_map_or (λ before. if before || check.answered then over w else record (by_reading c.reading (leaves check.tei w) (removes check.tei w)) { notes = Removed check.tei ∷ [] })
+    if check.settles then checks check.tei None w
+    else option_map_or (λ before. if before || check.answered then over w else record (by_reading c.reading (leaves check.tei w) (removes check.tei w)) { notes = Removed check.tei ∷ [] })
     check.before (checks check.tei (Some check.answered) w)
 
 -- What a terminal says, in the information of a UI frame to the group, with SAPI 63 (`is_message`): in octets 0F, Ri with its high octet

@@ -16,7 +16,7 @@ use Rattle.model_card.specs.Run.{moments, after_all}
 use Rattle.laws_line.specs.card.Worked.{usual, on_0, up}
 use Rattle.laws_line.specs.Frames.{given_up_in}
 use Rattle.laws_line.specs.Heard.{notes_of}
-use Rattle.laws_trace.specs.GivenUpIsTold.{given_up, first_of}
+use Rattle.laws_trace.specs.GivenUpIsTold.{given_up, given_up_tei, first_of}
 use Rattle.laws_trace.specs.Observer.{moment_of}
 use Rattle.laws_trace.specs.WorkedUnits.{calls, frame_comes}
 
@@ -43,6 +43,20 @@ of_packet_none = refl
 behind_rr : given_up_in Call (moment_of usual (two ++ frame_comes (0x02 ∷ 0x81 ∷ 0x01 ∷ 0x02 ∷ []) ∷ []) 0 (request (Release Call 64))).answer ≡ 1
 unfolding moments after_all lines.after lines.answer lines.takes_slot teis.course teis.refusal seq distance_of named exchanged read_by reading header_of control_of unnumbered_of supervisory_of
 behind_rr = refl
+
+-- TEI 64 is told with it, as the release and the removal name it.
+named_by_release : given_up_tei (request (Release Call 64)) (moment_of usual two 0 (request (Release Call 64))).answer ≡ 64
+unfolding moments after_all lines.after lines.answer lines.takes_slot teis.course teis.refusal seq distance_of named exchanged read_by reading header_of control_of unnumbered_of supervisory_of
+named_by_release = refl
+
+named_by_removal : given_up_tei (request (Remove 64)) (moment_of usual two 0 (request (Remove 64))).answer ≡ 64
+unfolding moments after_all lines.after lines.answer lines.takes_slot teis.course teis.refusal seq distance_of named exchanged read_by reading header_of control_of unnumbered_of supervisory_of
+named_by_removal = refl
+
+-- Of data that goes to the queue nothing is given up.
+none_by_data : given_up_tei (request (Data Call 64 (9 ∷ []))) (moment_of usual two 0 (request (Data Call 64 (9 ∷ [])))).answer ≡ 255
+unfolding moments after_all lines.after lines.answer lines.takes_slot teis.course teis.refusal seq distance_of named exchanged read_by reading header_of control_of unnumbered_of supervisory_of
+none_by_data = refl
 
 -- The first note names TEI 64: error F, as SABME comes again; and that the TEI is removed, as no terminal answers a check.
 first_by_sabme : first_of (notes_of (moment_of usual two 0 (frame_comes (0x00 ∷ 0x81 ∷ 0x7F ∷ [])).what).answer) ≡ Some 64

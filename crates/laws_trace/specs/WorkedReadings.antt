@@ -1,5 +1,5 @@
 -- Worked values: what an observer expects by annex B, and in the profile where it differs; and answers that break the laws.
-use Rattle.std.specs.Prelude.{◌≡◌, ℕ, List, [], ◌∷◌, ◌++◌, Some, None, refl}
+use Rattle.std.specs.Prelude.{◌≡◌, ℕ, true, false, List, [], ◌∷◌, ◌++◌, Some, None, refl}
 use Rattle.model_bits.specs.Stream as stream
 use Rattle.model_bits.specs.declared.heard.Cause.TheVariants.{Unserved}
 use Rattle.lapd_frame.specs.declared.notes.ErrorCode.{ErrorCode}
@@ -108,7 +108,7 @@ unfolding exchanged read_by reading header_of control_of unnumbered_of
 of_its_own = refl
 
 -- TEI 64 is checked as TEI 65 is verified: its terminal is asked at once. As no other answers, TEI 64 is removed, which is sent,
--- and TEI 65 is checked.
+-- and the check of TEI 65 settles: an answer changes nothing. Once T201 has run out, it is asked.
 abbrev both : List Event
 both = on_0 (Assign 64) ∷ on_0 (Assign 65) ∷ on_0 (Check 64) ∷ says (0x07 ∷ 0x83 ∷ []) ∷ []
 
@@ -119,7 +119,18 @@ both_asked = refl
 abbrev expires : Event
 expires = at 0 (expiry T201)
 
-next_checked : owed_after annex_b (both ++ calls 2 ++ expires ∷ calls 1 ++ expires ∷ []) ≡ IdentityRemove 64 ∷ IdentityCheckRequest 65 ∷ []
+abbrev one_left : List Event
+one_left = both ++ calls 2 ++ expires ∷ calls 1 ++ expires ∷ []
+
+settling : managed_after annex_b 0 one_left ≡ record (managed_after annex_b 0 one_left) { check = Some (record { tei = 65; settles = true; answered = false; before = None }); later = []; owed = IdentityRemove 64 ∷ [] }
+unfolding exchanged read_by reading header_of control_of unnumbered_of
+settling = refl
+
+settled : (managed_after annex_b 0 (one_left ++ says (0x05 ∷ 0x83 ∷ []) ∷ [])).check ≡ (managed_after annex_b 0 one_left).check
+unfolding exchanged read_by reading header_of control_of unnumbered_of
+settled = refl
+
+next_checked : owed_after annex_b (one_left ++ expires ∷ []) ≡ IdentityRemove 64 ∷ IdentityCheckRequest 65 ∷ []
 unfolding exchanged read_by reading header_of control_of unnumbered_of
 next_checked = refl
 
@@ -132,7 +143,8 @@ not_named : several (managed_after annex_b 0 both) (0x81 ∷ 0x83 ∷ []) ∷ se
 unfolding exchanged read_by reading header_of control_of unnumbered_of
 not_named = refl
 
--- Where T201 stops though another TEI is to be checked, or the verify is told as not served, the law is broken.
+-- Where T201 stops though another TEI is to be checked, or the verify or an answer while the check settles is told as not served,
+-- the law is broken.
 stopped : IsAsDue annex_b (due annex_b (expiry T201) (managed_after annex_b 0 (both ++ expires ∷ []))) (told (record nothing { notes = Removed 64 ∷ []; orders = Stop T201 ∷ [] })) → ⊥
 unfolding exchanged read_by reading header_of control_of unnumbered_of
 stopped h = cc h.orders
@@ -140,3 +152,7 @@ stopped h = cc h.orders
 unserved : cause_due annex_b (managed_after annex_b 0 (on_0 (Assign 64) ∷ on_0 (Assign 65) ∷ on_0 (Check 64) ∷ [])) (λ service tei. 4) (hears (stream.frame (0xFC ∷ 0xFF ∷ 0x03 ∷ 0x0F ∷ 0x12 ∷ 0x34 ∷ 0x07 ∷ 0x83 ∷ []))) ≡ Some Unserved → ⊥
 unfolding exchanged read_by reading header_of control_of unnumbered_of
 unserved e = cc e
+
+answer_unserved : cause_due annex_b (managed_after annex_b 0 one_left) (λ service tei. 4) (hears (stream.frame (0xFC ∷ 0xFF ∷ 0x03 ∷ 0x0F ∷ 0x12 ∷ 0x34 ∷ 0x05 ∷ 0x83 ∷ []))) ≡ Some Unserved → ⊥
+unfolding exchanged read_by reading header_of control_of unnumbered_of
+answer_unserved e = cc e

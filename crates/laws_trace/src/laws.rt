@@ -174,9 +174,9 @@ pub fn nothing_is_lost_in_vain()
 /// What is given up is told. An event gives up all that the link of a TEI keeps, or nothing. It gives it up if layer 3
 /// learns that the link keeps nothing, or if the TEI leaves the line. The observer of [`what_is_given_is_due`] defines
 /// what it keeps: what it is granted, and is neither acknowledged nor given up. All links that give up contents by one
-/// event are of one TEI. If the event is a request of a link, or removes a TEI, it is the TEI that the request names. If
-/// not, it is the TEI that the first note of the answer names. Of each service the answer tells as many as one link gives
-/// up. It tells none only if no link gives up any (profile).
+/// event are of one TEI, and this TEI is told. It is the one that the request names, if the event is a request of a link,
+/// or removes a TEI. If not, it is the one that the first note of the answer names. Of each service the answer tells as
+/// many as one link gives up. It tells none only if no link gives up any (profile).
 pub fn given_up_is_told()
     ensures { Always GivenUpIsTold }
 {}

@@ -11,8 +11,9 @@ use Rattle.model_teis.specs.network.Messages.{information_of}
 use Rattle.model_teis.specs.Table.{IsSoundTable, IsAt, Places, is_on}
 use Rattle.model_teis.specs.network.Sound as tei
 use Rattle.model_teis.specs.declared.network.check.Check.{Check}
+use Rattle.lapd_frame.specs.declared.readings.Reading.{Reading}
 use Rattle.model_teis.specs.declared.network.check.Period.{Period}
-use Rattle.model_teis.specs.declared.network.check.Period.TheVariants.{First, Second}
+use Rattle.model_teis.specs.declared.network.check.Period.TheVariants.{First, Second, Settling}
 use Rattle.model_teis.specs.declared.network.messages.Message.{Message}
 use Rattle.model_teis.specs.declared.network.messages.Message.TheVariants.{IdentityAssigned, IdentityDenied, IdentityCheckRequest, IdentityRemove}
 use Rattle.model_teis.specs.declared.network.remembered.Remembered.{Remembered}
@@ -141,10 +142,11 @@ remembered-fits places sound m on =
 period-small : (p : Period) → period_number p < 256
 period-small First = lit< tt
 period-small Second = lit< tt
+period-small Settling = lit< tt
 
-check-fits : (places : Places) → IsSoundTable places → (o : Option Check) → IfSome o (tei.IsSoundCheck places) → Fits 4 (check o)
-check-fits places sound None ok = fits-cons 0 3 [] (lit< tt) (fits-nil 3)
-check-fits places sound (Some c) ok =
+check-fits : (reading : Reading) (places : Places) → IsSoundTable places → (o : Option Check) → IfSome o (tei.IsSoundCheck reading places) → Fits 4 (check o)
+check-fits reading places sound None ok = fits-cons 0 3 [] (lit< tt) (fits-nil 3)
+check-fits reading places sound (Some c) ok =
     let low : c.tei ≤ 126 = on-range places c.tei sound ok.on_line in
     fits-cons (period_number c.period) 3 _ (period-small c.period)
     (fits-cons c.tei 2 _ (omega (arith, low)) (fits-cons c.first 1 _ (omega (arith, ok.first)) (fits-cons c.second 0 [] (omega (arith, ok.second)) (fits-nil 0))))
@@ -168,7 +170,7 @@ management-fits m sound dues octets =
     fits-list (λ (x : Message). AreOctets (information_of x)) information_of 5 message-fits m.waiting (omega (arith, queue)) octets in
     fits-less _ 39 (management m) (omega (arith, few, queue))
     (fits-append (1 + length m.remembered * 3) _ (list_of remembered m.remembered) _ memory
-    (fits-append 4 _ (check m.check) _ (check-fits m.places sound.table m.check sound.checked)
+    (fits-append 4 _ (check m.check) _ (check-fits m.reading m.places sound.table m.check sound.checked)
     (fits-cons (number_of m.to_check) (1 + length m.waiting * 5) _ (bits-small m.to_check dues) messages)))
 
 -- and of a terminal

@@ -105,7 +105,7 @@ sound_unused m table unused =
     record {
       table = table;
       memory = subst (tei.IsSoundMemory m.places) (sym unused.remembered) (memory-empty m.places);
-      checked = subst (λ o. IfSome o (tei.IsSoundCheck m.places)) (sym unused.check) tt;
+      checked = subst (λ o. IfSome o (tei.IsSoundCheck m.reading m.places)) (sym unused.check) tt;
       due = unused-due m unused;
       read = unused-read m.reading m unused;
       queue = subst tei.IsSoundQueue (sym unused.waiting) queue-empty;

@@ -13,9 +13,9 @@ use Rattle.lapd_count.specs.declared.messages.MessageType.TheVariants as types
 use Rattle.lapd_frame.specs.declared.addresses.Side.TheVariants.{User}
 use Rattle.lapd_frame.specs.declared.readings.Reading.TheVariants.{AnnexB}
 use Rattle.lapd_image.specs.Numbers.{number}
-use Rattle.model_teis.specs.network.Image.{management}
+use Rattle.model_teis.specs.network.Image.{check as tei_check, management}
 use Rattle.model_teis.specs.network.Machine.{Management}
-use Rattle.model_teis.specs.declared.network.check.Period.TheVariants.{First}
+use Rattle.model_teis.specs.declared.network.check.Period.TheVariants.{First, Settling}
 use Rattle.model_teis.specs.declared.network.messages.Message.TheVariants.{IdentityAssigned, IdentityDenied, IdentityCheckRequest, IdentityRemove}
 use Rattle.model_teis.specs.declared.terminal.messages.Message.TheVariants.{IdentityCheckResponse, IdentityVerify}
 use Rattle.model_teis.specs.declared.terminal.procedure.Procedure.TheVariants.{Verifying}
@@ -59,6 +59,10 @@ checking_image : management checking
     ∷ 0x0F ∷ 0x12 ∷ 0x34 ∷ 2 ∷ 133 ∷ 0x0F ∷ 1 ∷ 2 ∷ 3 ∷ 255 ∷ 0x0F ∷ 0 ∷ 0 ∷ 4 ∷ 131 ∷ 0x0F ∷ 0 ∷ 0 ∷ 6 ∷ 135 ∷ []
 unfolding number
 checking_image = refl
+
+-- The check of TEI 66 settles.
+settling_image : tei_check (Some (record { tei = 66; period = Settling; first = 0; second = 0 })) ≡ 3 ∷ 66 ∷ 0 ∷ 0 ∷ []
+settling_image = refl
 
 -- A SABME was heard, and 300 octets; two denials were begun; and so many frames were lost that the number stays.
 counted_image : counters (with_all none_counted ((Frames Heard Sabme, 1) ∷ (Octets Heard, 300) ∷ (Lost, most) ∷ (Messages Begun types.IdentityDenied, 2) ∷ []))

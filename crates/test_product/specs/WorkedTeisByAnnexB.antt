@@ -1,5 +1,5 @@
 -- Worked values of the rows that differ by annex B: each holds by computing.
-use Rattle.std.specs.Prelude.{◌≡◌, true, List, [], ◌∷◌, Some, refl}
+use Rattle.std.specs.Prelude.{◌≡◌, true, List, [], ◌∷◌, None, Some, refl}
 use Rattle.lapd_frame.specs.declared.readings.Reading.TheVariants.{AnnexB}
 use Rattle.lapd_frame.specs.declared.notes.Note.TheVariants.{Assigned, Removed}
 use Rattle.lapd_frame.specs.declared.timers.Order.TheVariants.{Start, Stop}
@@ -48,7 +48,8 @@ second-period-over : brought expiry (line (assign 64 ∷ verifies 0x81 ∷ expir
 unfolding course refusal
 second-period-over = refl
 
--- A verify while another TEI is under check: that TEI is asked for at once, and checked as the check ends.
+-- A verify while another TEI is under check: that TEI is asked for at once. As the check ends, its own settles, and a response
+-- counts nothing; then it is checked.
 abbrev two : List Event
 two = assign 64 ∷ assign 65 ∷ verifies 0x81 ∷ []
 
@@ -63,14 +64,25 @@ due : may_send one-due ∷ held one-due ∷ [] ≡ 1 ∷ 1 ∷ []
 unfolding course refusal
 due = refl
 
-then-checked : brought expiry (after_all (answers 0x00 0x01 0x81 ∷ expiry ∷ []) one-due) ≡ (record nothing { orders = Start T201 ∷ [] }, asked 0x83)
+then-settles : brought expiry (after_all (answers 0x00 0x01 0x81 ∷ expiry ∷ []) one-due) ≡ (record nothing { orders = Start T201 ∷ [] }, None)
+unfolding course refusal
+then-settles = refl
+
+abbrev settling : Management
+settling = after_all (answers 0x00 0x01 0x81 ∷ expiry ∷ expiry ∷ []) one-due
+
+settled-answer : brought (answers 0x00 0x01 0x83) settling ≡ (nothing, None)
+unfolding course refusal
+settled-answer = refl
+
+then-checked : brought expiry settling ≡ (record nothing { orders = Start T201 ∷ [] }, asked 0x83)
 unfolding course refusal
 then-checked = refl
 
--- With four messages that wait, the end of an unanswered check loses two.
-two-lost : told expiry (after (disown 66) (after (disown 66) (after (disown 66) (after (disown 66) (pulled expiry one-due))))) ≡ record nothing { notes = Removed 64 ∷ []; orders = Start T201 ∷ []; change = Some (Left 64 0); lost = 2 }
+-- With four messages that wait, the end of an unanswered check loses the removal.
+one-lost : told expiry (after (disown 66) (after (disown 66) (after (disown 66) (after (disown 66) (pulled expiry one-due))))) ≡ record nothing { notes = Removed 64 ∷ []; orders = Start T201 ∷ []; change = Some (Left 64 0); lost = 1 }
 unfolding course refusal
-two-lost = refl
+one-lost = refl
 
 -- As the line goes down, no check is due any more.
 forgotten : after down one-due ≡ line (assign 64 ∷ assign 65 ∷ [])

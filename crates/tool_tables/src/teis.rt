@@ -11,11 +11,11 @@ pub const HEAD: &str = "
 A line with room for two TEIs. A cell has, in this order: the messages that are sent, or how many found no room and are
 lost; `unserved` where a message is not served, or why a request is refused; what layer management is told; what is
 ordered of T201; and which TEI comes to the line (+) or leaves it (-). Ri is the reference number of a request; that of
-TEI 64 is 1, that of TEI 65 is 2. A check has two periods of T201. What waited has been sent, except where a column says
-that it waits.
+TEI 64 is 1, that of TEI 65 is 2. A check has two periods of T201. By annex B one that was due settles before that; in the
+profile none is due. What waited has been sent, except where a column says that it waits.
 
-|Event|no TEI|64|64 and 65|64, checked|64, checked, one response|64, second period|64, second period, one response before|64 and 65, 64 checked|64 and 65, second period, 65 verified|64, whose message waits|64, four messages wait|
-|---|---|---|---|---|---|---|---|---|---|---|---|";
+|Event|no TEI|64|64 and 65|64, checked|64, checked, one response|64, second period|64, second period, one response before|64 and 65, 64 checked|64 and 65, second period, 65 verified|64 and 65, 65 settles|64, whose message waits|64, four messages wait|
+|---|---|---|---|---|---|---|---|---|---|---|---|---|";
 
 const FIRST: Event = Manage(Message(&[15, 0, 1, 1, 255]));
 
@@ -34,7 +34,7 @@ pub fn cases() -> &'static [Case] {
     &CASES
 }
 
-static CASES: [Case; 11] = [
+static CASES: [Case; 12] = [
     Case {
         events: &[],
         held: &[],
@@ -69,6 +69,18 @@ static CASES: [Case; 11] = [
     },
     Case {
         events: &[FIRST, SECOND, CHECK, Manage(Expire), VERIFY],
+        held: &[],
+    },
+    Case {
+        events: &[
+            FIRST,
+            SECOND,
+            CHECK,
+            VERIFY,
+            RESPONSE,
+            Manage(Expire),
+            Manage(Expire),
+        ],
         held: &[],
     },
     Case {

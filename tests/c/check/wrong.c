@@ -152,7 +152,7 @@ static void wrong_card(void) {
 
 static void wrong_words(void) {
     const lapd_timer no_timer = {5, LAPD_CALL, 64}, of_no_service = {LAPD_T200, 1, 64}, of_no_tei = {LAPD_T203, LAPD_CALL, 127};
-    const lapd_note of_packet = {LAPD_ESTABLISH_CONFIRM, LAPD_PACKET, 64, 0};
+    const lapd_note of_packet = {LAPD_ESTABLISH_CONFIRM, LAPD_PACKET, 64, 0, {0}};
     ANSWERS(LAPD_WRONG_TIMER, lapd_expire(&card, 0, &no_timer, &own.report));
     ANSWERS(LAPD_WRONG_SERVICE, lapd_expire(&card, 0, &of_no_service, &own.report));
     ANSWERS(LAPD_WRONG_TEI, lapd_expire(&card, 0, &of_no_tei, &own.report));
@@ -239,7 +239,8 @@ static lapd_config with(unsigned at, unsigned value) {
     return it;
 }
 
-/* No card and no clock begins with a field out of range, by one too little and by one too much. */
+/* No card and no clock begins with a field out of range, by one too little and by one too much, nor with a reserved place that is
+ * used. */
 static void bad_fields(void) {
     enum { FIELDS = 14, AT_SEED = 11 };
     static const uint32_t bad[FIELDS] = {LAPD_BAD_LINES, LAPD_BAD_TERMINALS, LAPD_BAD_K, LAPD_BAD_K16, LAPD_BAD_QUEUE,
@@ -253,6 +254,10 @@ static void bad_fields(void) {
             ANSWERS(bad[at], lapd_card_start(&none, &too_much));
         if (least[at] > 0)
             ANSWERS(bad[at], lapd_clock_start(&no_clock, &too_little));
+    }
+    for (unsigned at = FIELDS; at < sizeof(lapd_config) / sizeof(uint16_t); at++) {
+        const lapd_config later = with(at, 1);
+        ANSWERS(LAPD_BAD_RESERVED, lapd_card_start(&none, &later));
     }
 }
 

@@ -13,7 +13,7 @@ INKS = {FLAG_KIND: "blue", STUFFED: "red", DATA: "ink", BEGUN: "soft"}
 
 
 class Gap(NamedTuple):
-    """Where the bits between the two flags stand: the first, and the one behind the last."""
+    """Where the bits between the two flags stand: the first, and the one after the last."""
 
     begin: int
     end: int

@@ -1,9 +1,9 @@
 //! The configuration of a card.
 
 ghost use Rattle.std.specs.Prelude.{◌≡◌, ◌<◌, None, Ok, Err, IfSome, IfOk, IfErr};
-ghost use Rattle.lapd_c.specs.{first_fault, config_in, side_in, seed_in, sapi_in, reading_in, config_fault};
+ghost use Rattle.lapd_c.specs.{first_fault, config_in, is_unused, side_in, seed_in, sapi_in, reading_in, config_fault};
 
-use crate::plain::statuses::{BAD_READING, BAD_SIDE, field_status};
+use crate::plain::statuses::{BAD_READING, BAD_RESERVED, BAD_SIDE, field_status};
 use lapd_frame::{Reading, Side};
 use model_line::Config;
 
@@ -39,6 +39,8 @@ pub struct PlainConfig {
     pub sapi: u16,
     /// Which rows of the tables hold where readers of Q.921 differ: 0 the profile's, 1 annex B's.
     pub reading: u16,
+    /// For fields of a later version: 0.
+    pub reserved: [u16; 18],
 }
 
 /// The side of a number: 0 the network's, otherwise the user's.
@@ -73,12 +75,20 @@ fn reading_in(reading: u16) -> Reading
     }
 }
 
+/// Whether what is for a later version is 0 in each place.
+fn is_unused(reserved: &[u16]) -> bool
+    ensures { result ≡ is_unused reserved.now }
+{
+    reserved.iter().all(|place| *place == 0)
+}
+
 impl PlainConfig {
     /// The same for the card.
     ///
     /// # Errors
     ///
-    /// The status of a start where a field is out of range: that of the first.
+    /// The status of a start where a field is out of range: that of the first; otherwise `BAD_RESERVED` where what is for a later
+    /// version is not 0.
     pub fn read(&self) -> Result<Config, u32>
         ensures fault { IfSome (config_fault self.now) (λ wrong. result ≡ Err wrong) }
         ensures config { config_fault self.now ≡ None → result ≡ Ok (config_in self.now) }
@@ -105,6 +115,7 @@ impl PlainConfig {
             Some(field) => Err(field_status(field)),
             None if self.side > 2 => Err(BAD_SIDE),
             None if self.reading > 1 => Err(BAD_READING),
+            None if !is_unused(&self.reserved) => Err(BAD_RESERVED),
             None => Ok(config),
         }
     }

@@ -12,6 +12,8 @@ use model_link::LinkCounts;
 pub struct PlainCounters {
     /// Each at its place, which `include/lapd.h` has by name.
     pub values: [u64; 79],
+    /// For what a later version counts: 0.
+    pub reserved: [u64; 17],
 }
 
 impl PlainCounters {
@@ -20,7 +22,10 @@ impl PlainCounters {
         ensures { result ≡ plain_counters counters.now }
     {
         let values = counters.values();
-        PlainCounters { values }
+        PlainCounters {
+            values,
+            reserved: [0; 17],
+        }
     }
 }
 
@@ -38,6 +43,8 @@ pub struct PlainLinkCounters {
     pub rejects_received: u16,
     /// How often the link was established.
     pub established: u16,
+    /// For what a later version counts: 0.
+    pub reserved: [u16; 11],
 }
 
 impl PlainLinkCounters {
@@ -51,6 +58,7 @@ impl PlainLinkCounters {
             rejects_sent: counts.rejects_sent,
             rejects_received: counts.rejects_received,
             established: counts.established,
+            reserved: [0; 11],
         }
     }
 }

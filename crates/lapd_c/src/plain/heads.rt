@@ -13,6 +13,8 @@ pub struct PlainHead {
     pub length: u16,
     /// 0 after the frame's end.
     pub octets: [u8; 4],
+    /// For a later version: 0.
+    pub reserved: [u8; 2],
 }
 
 impl PlainHead {
@@ -26,11 +28,16 @@ impl PlainHead {
                 PlainHead {
                     length: head.length,
                     octets,
+                    reserved: [0; 2],
                 }
             }
             None => {
                 let octets = [0; 4];
-                PlainHead { length: 0, octets }
+                PlainHead {
+                    length: 0,
+                    octets,
+                    reserved: [0; 2],
+                }
             }
         }
     }

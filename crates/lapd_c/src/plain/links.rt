@@ -18,6 +18,8 @@ pub struct PlainLink {
     pub tei: u8,
     /// Its number in Q.921: 4 to 8.
     pub state: u8,
+    /// For a later version: 0.
+    pub reserved: [u8; 5],
 }
 
 impl PlainLink {
@@ -29,6 +31,7 @@ impl PlainLink {
             service: service_at(place).usual_sapi(),
             tei: place / 2,
             state,
+            reserved: [0; 5],
         }
     }
 }

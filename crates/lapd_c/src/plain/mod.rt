@@ -38,4 +38,4 @@ pub(crate) use statuses::{
     OK, REFUSED_NO_LINK, REFUSED_QUEUE_FULL, SECOND_START, WRONG_CARD, WRONG_LENGTH, WRONG_LINE,
     WRONG_ORDER, WRONG_TIME, refusal_status,
 };
-pub(crate) use timers::{PlainDue, PlainLengths, PlainOrder, PlainTimer, link_in};
+pub(crate) use timers::{PlainDue, PlainLengths, PlainOrder, PlainTimer, lengths_of, link_in};

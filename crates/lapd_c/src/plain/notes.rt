@@ -18,6 +18,8 @@ pub struct PlainNote {
     pub tei: u8,
     /// The letter of an error, in ASCII; otherwise 0.
     pub error: u8,
+    /// For a later version: 0.
+    pub reserved: [u8; 4],
 }
 
 impl PlainNote {
@@ -37,6 +39,7 @@ impl PlainNote {
                 service: service.usual_sapi(),
                 tei,
                 error: code.letter() as u8,
+                reserved: [0; 4],
             },
             Note::Assigned(tei) => of_link(8, Service::Call, tei),
             Note::Removed(tei) => of_link(9, Service::Call, tei),
@@ -57,6 +60,7 @@ fn of_link(note: u8, service: Service, tei: u8) -> PlainNote
         service: service.usual_sapi(),
         tei,
         error: 0,
+        reserved: [0; 4],
     }
 }
 

@@ -2,7 +2,7 @@
 
 ghost use Rattle.std.specs.Prelude.{◌≡◌, ◌≤◌, Bool, [], false, true, length, take, map, min};
 ghost use Rattle.std.specs.Option.{option_copied};
-ghost use Rattle.lapd_c.specs.{listed, told_beside, no_timer, nothing, plain_note, plain_order, plain_timer, ShowsReopened, with_reopened, Shows, ShowsPull, SameButContents, contents_in, contents_or_none, mark_of, orders_of};
+ghost use Rattle.lapd_c.specs.{given_up_tei, listed, told_beside, no_timer, unused, nothing, plain_note, plain_order, plain_timer, ShowsReopened, with_reopened, Shows, ShowsPull, SameButContents, contents_in, contents_or_none, mark_of, orders_of};
 
 use crate::plain::links::service_at;
 use crate::plain::notes::{PlainNote, cause_number};
@@ -15,6 +15,9 @@ const MOST_OCTETS: usize = MOST_N201 as usize;
 
 /// The greatest number of a line that a report has room for; no card has so many lines.
 const MOST_LINE: usize = 65535;
+
+/// What a report has in place of a TEI, if nothing is given up.
+const NO_TEI: u8 = 255;
 
 /// What an event led to. After as many as there are notes, orders and octets, the arrays may hold anything.
 #[repr(C)]
@@ -56,6 +59,10 @@ pub struct PlainReport {
     pub given_up: u8,
     /// and of that of the second service.
     pub given_up_16: u8,
+    /// The TEI of these links; 255 if nothing is given up.
+    pub given_up_tei: u8,
+    /// For a later version: 0.
+    pub reserved: [u8; 15],
 }
 
 impl PlainReport {
@@ -134,16 +141,20 @@ impl PlainReport {
     }
 
     /// Shows the line, and which link of it has room again, by its place, or that none has that waited for it; and that no timer
-    /// fell due.
+    /// fell due. And whose contents are given up, if the call names a TEI that of these, and otherwise that of the first note.
     #[inline(always)]
-    pub fn show_reopened(&mut self, line: usize, place: Option<u8>)
+    pub fn show_reopened(&mut self, line: usize, named: Option<u8>, place: Option<u8>)
         ensures shown { ShowsReopened self.new place }
         ensures expired { self.new.expired ≡ no_timer }
         ensures line { self.new.line ≡ min line 65535 }
+        ensures given_up { self.new.given_up_tei ≡ given_up_tei named self.new }
+        ensures tail { self.new.reserved ≡ unused 15 }
         ensures rest { self.new ≡ with_reopened self.new self.old }
     {
         self.line = line.min(MOST_LINE) as u16;
         self.expired = PlainTimer::none();
+        self.given_up_tei = self.given_up_by(named);
+        self.reserved = [0; 15];
         match place {
             None => self.reopened = 0,
             Some(place) => {
@@ -167,6 +178,21 @@ impl PlainReport {
         ensures { result.now ≡ orders_of self.now }
     {
         &self.orders[..usize::from(self.order_count)]
+    }
+
+    // The TEI whose links gave up what it counts.
+    #[inline(always)]
+    fn given_up_by(&self, named: Option<u8>) -> u8
+        ensures { result ≡ given_up_tei named self.now }
+    {
+        if self.given_up == 0 && self.given_up_16 == 0 {
+            return NO_TEI;
+        }
+        match named {
+            Some(tei) => tei,
+            None if self.note_count == 0 => NO_TEI,
+            None => self.notes[0].tei,
+        }
     }
 
     // The contents, where nothing is shown as delivered yet.

@@ -15,6 +15,8 @@ pub struct PlainRoom {
     pub queue: u8,
     /// V(A): 0 to 127.
     pub va: u8,
+    /// For a later version: 0.
+    pub reserved: [u8; 10],
 }
 
 impl PlainRoom {
@@ -26,6 +28,7 @@ impl PlainRoom {
             pool: room.pool,
             queue: room.queue,
             va: room.va,
+            reserved: [0; 10],
         }
     }
 }

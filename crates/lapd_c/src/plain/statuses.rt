@@ -57,6 +57,8 @@ pub const BAD_SAPI: u32 = 44;
 pub const BAD_READING: u32 = 45;
 /// Not an image, or of no state that a card or a clock can have.
 pub const BAD_IMAGE: u32 = 46;
+/// What a struct has for a later version is not 0: of a start or of lengths whose fields are in range.
+pub const BAD_RESERVED: u32 = 47;
 
 /// The status of a request that was refused: 1 to 10, or 29.
 pub fn refusal_status(why: Refusal) -> u32

@@ -1,11 +1,14 @@
 //! Timers, and what is to be done with them.
 
-ghost use Rattle.std.specs.Prelude.{◌≡◌, None, Err, IfSome, IfErr, IsOkAnd};
+ghost use Rattle.std.specs.Prelude.{◌≡◌, ◌<◌, None, Err, IfSome, IfErr, IsOkAnd};
 ghost use Rattle.lapd_clock.specs.Given.{lengths_of};
 ghost use Rattle.lapd_clock.specs.Timer.{first_out_of_range};
-ghost use Rattle.lapd_c.specs.Timers.{lengths_in, no_timer, plain_timer, plain_order, timer_in, order_in, link_in};
+ghost use Rattle.lapd_c.specs.Reserved.{is_unused};
+ghost use Rattle.lapd_c.specs.Timers.{lengths_fault, lengths_given, lengths_in, no_timer, plain_timer, plain_order, timer_in, order_in, link_in};
 
-use crate::plain::statuses::{WRONG_ORDER, WRONG_TEI, WRONG_TIME, WRONG_TIMER, service_in};
+use crate::plain::statuses::{
+    BAD_RESERVED, WRONG_ORDER, WRONG_TEI, WRONG_TIME, WRONG_TIMER, service_in,
+};
 use lapd_clock::Lengths;
 use lapd_frame::{LAST_TEI, Order, Service, Timer};
 
@@ -43,6 +46,8 @@ pub struct PlainLengths {
     pub t201: u32,
     /// Of each line of a terminal: 1 to 3,600,000, at the other sides, too.
     pub t202: u32,
+    /// For a later version: 0.
+    pub reserved: [u32; 4],
 }
 
 impl PlainLengths {
@@ -50,16 +55,41 @@ impl PlainLengths {
     ///
     /// # Errors
     ///
-    /// `WRONG_TIME` where one is out of range.
+    /// `WRONG_TIME` where one is out of range; otherwise `BAD_RESERVED` where what is for a later version is not 0.
     pub fn read(&self) -> Result<Lengths, u32>
-        ensures out_of_range { IfSome (first_out_of_range (lengths_in self.now)) (λ _. result ≡ Err 21) }
-        ensures read { first_out_of_range (lengths_in self.now) ≡ None → IsOkAnd result (λ lengths. lengths_of lengths ≡ lengths_in self.now) }
-        ensures wrong { IfErr result (λ wrong. wrong ≡ 21) }
+        ensures fault { IfSome (lengths_fault self.now) (λ wrong. result ≡ Err wrong) }
+        ensures read { lengths_fault self.now ≡ None → IsOkAnd result (λ lengths. lengths_of lengths ≡ lengths_in self.now) }
+        ensures wrong { IfErr result (λ wrong. 10 < wrong) }
     {
-        Lengths::new(self.t200, self.t203, self.t201)
-            .and_then(|lengths| lengths.with_t202(self.t202))
-            .map_err(|_| WRONG_TIME)
+        let lengths = lengths_of(self.t200, self.t203, self.t201, self.t202)?;
+        if is_unused(&self.reserved) {
+            Ok(lengths)
+        } else {
+            Err(BAD_RESERVED)
+        }
     }
+}
+
+/// Whether what is for a later version is 0 in each place.
+fn is_unused(reserved: &[u32]) -> bool
+    ensures { result ≡ is_unused reserved.now }
+{
+    reserved.iter().all(|place| *place == 0)
+}
+
+/// Lengths of timers, in milliseconds.
+///
+/// # Errors
+///
+/// `WRONG_TIME` where one is out of range.
+pub fn lengths_of(t200: u32, t203: u32, t201: u32, t202: u32) -> Result<Lengths, u32>
+    ensures out_of_range { IfSome (first_out_of_range (lengths_given t200 t203 t201 t202)) (λ _. result ≡ Err 21) }
+    ensures read { first_out_of_range (lengths_given t200 t203 t201 t202) ≡ None → IsOkAnd result (λ lengths. lengths_of lengths ≡ lengths_given t200 t203 t201 t202) }
+    ensures wrong { IfErr result (λ wrong. wrong ≡ 21) }
+{
+    Lengths::new(t200, t203, t201)
+        .and_then(|lengths| lengths.with_t202(t202))
+        .map_err(|_| WRONG_TIME)
 }
 
 /// A timer that fell due, with its line.
@@ -70,6 +100,8 @@ pub struct PlainDue {
     pub line: u32,
     /// Which timer of it.
     pub timer: PlainTimer,
+    /// For a later version: 0.
+    pub reserved: [u8; 9],
 }
 
 impl PlainTimer {

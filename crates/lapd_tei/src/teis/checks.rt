@@ -2,7 +2,7 @@
 
 ghost use Rattle.std.specs.Prelude.{◌≡◌, ◌≤◌, true, false, Some, None};
 ghost use Rattle.lapd_frame.specs.declared.readings.Reading.TheVariants.{AnnexB};
-ghost use Rattle.lapd_tei.specs.{First, Second, IdentityRemove, is_on, is_checked, begun, begin_check, check_next, stop_check, end_check, end_check_of, check_is_due, left, verify, verify_beside, ask_once, respond, serve, count, counted, doubled, expire, expire_period, removed, read_as, nothing_happens, send, ◌then◌, responses_in, led_to, IsShort, IsOpen, AreSoundChecks, MayBeDue};
+ghost use Rattle.lapd_tei.specs.{First, Second, Settling, IdentityRemove, is_on, is_checked, begun, begin_check, check_next, settle, stop_check, end_check, end_check_of, check_is_due, left, verify, verify_beside, ask_once, respond, serve, count, counted, doubled, expire, expire_period, removed, read_as, nothing_happens, send, ◌then◌, responses_in, led_to, IsShort, IsOpen, AreSoundChecks, MayBeDue};
 
 use super::Teis;
 use crate::check;
@@ -22,7 +22,7 @@ impl Teis {
             return TeiOutcome::unserved();
         }
         match self.check {
-            None => self.begin_check(tei, TeiOutcome::nothing()),
+            None => self.begin_check(tei),
             Some(own) => self.verify_beside(tei, own),
         }
     }
@@ -74,11 +74,10 @@ impl Teis {
     }
 
     // A check of a TEI on the line begins.
-    pub(super) fn begin_check(&mut self, tei: u8, told: TeiOutcome) -> TeiOutcome
+    pub(super) fn begin_check(&mut self, tei: u8) -> TeiOutcome
         requires on { is_on tei self.old.places ≡ true }
         requires due { AreSoundChecks self.old.places (Some (record { tei = tei; period = First; first = 0; second = 0 })) self.old.to_check }
-        requires open { IsOpen told }
-        ensures led { led_to self.new result ≡ begin_check tei (led_to self.old told) }
+        ensures led { led_to self.new result ≡ begin_check tei (begun self.old) }
         ensures short { IsShort result }
     {
         let lost = self.queue.send(Message::IdentityCheckRequest { tei });
@@ -91,7 +90,28 @@ impl Teis {
         self.check = Some(check);
         TeiOutcome {
             orders: ShortList::one(Order::Start(Timer::T201)),
-            lost: told.lost + lost,
+            lost,
+            ..TeiOutcome::nothing()
+        }
+    }
+
+    // A check of a TEI on the line settles, by annex B: it was due.
+    fn settle(&mut self, tei: u8, told: TeiOutcome) -> TeiOutcome
+        requires on { is_on tei self.old.places ≡ true }
+        requires read { self.old.reading ≡ AnnexB }
+        requires due { AreSoundChecks self.old.places (Some (record { tei = tei; period = Settling; first = 0; second = 0 })) self.old.to_check }
+        requires open { IsOpen told }
+        ensures led { led_to self.new result ≡ settle tei (led_to self.old told) }
+        ensures short { IsShort result }
+    {
+        self.check = Some(Check {
+            tei,
+            period: Period::Settling,
+            first: 0,
+            second: 0,
+        });
+        TeiOutcome {
+            orders: ShortList::one(Order::Start(Timer::T201)),
             ..told
         }
     }
@@ -157,16 +177,19 @@ impl Teis {
         }
     }
 
-    // T201 has expired in a check.
-    pub(super) fn expire(&mut self, own: Check) -> TeiOutcome
-        requires { self.old.check ≡ Some own }
+    // T201 has expired.
+    pub(super) fn expire(&mut self) -> TeiOutcome
         ensures led { led_to self.new result ≡ expire (begun self.old) }
         ensures short { IsShort result }
     {
+        let Some(own) = self.check else {
+            return TeiOutcome::nothing();
+        };
         match own.period {
             Period::First => self.ask_again(own),
             Period::Second if check::is_unanswered(own) => self.removed(own.tei),
             Period::Second => self.end_check(own.tei, TeiOutcome::nothing()),
+            Period::Settling => self.begin_check(own.tei),
         }
     }
 
@@ -253,9 +276,10 @@ impl Teis {
         }
     }
 
-    // By annex B the check at the lowest place of those that are due begins.
+    // By annex B the check at the lowest place of those that are due settles.
     fn check_next(&mut self, tei: u8, told: TeiOutcome) -> TeiOutcome
         requires runs { is_checked tei self.old.check ≡ true }
+        requires read { self.old.reading ≡ AnnexB }
         requires open { IsOpen told }
         ensures led { led_to self.new result ≡ check_next (led_to self.old told) }
         ensures other { is_checked tei self.new.check ≡ false }
@@ -268,7 +292,7 @@ impl Teis {
             return self.stop_check(told);
         };
         self.due.put(Some(place), false);
-        self.begin_check(next, told)
+        self.settle(next, told)
     }
 
     // No check runs any more.

@@ -36,7 +36,7 @@ impl Teis {
     {
         let table = self.table.restored(reader)?;
         let memory = Memory::restored(self.reading, &table, reader)?;
-        let check = check::restored(&table, reader)?;
+        let check = check::restored(self.reading, &table, reader)?;
         let due = Due::restored(self.reading, &table, check, reader)?;
         self.queue.restore(reader)?;
         self.table = table;

@@ -19,7 +19,7 @@ use Rattle.model_line.specs.declared.config.Config.{Config}
 use Rattle.model_line.specs.Event.{Event, hears, expiry, request, next}
 use Rattle.model_line.specs.Request.{Request, Establish, Release, Data, Unit, Assign, Remove, Check, Disown, AskTei, VerifyTei, SetBusy, ClearBusy, Deactivate, Down}
 use Rattle.laws_trace.specs.LinkFrames.{frame_of}
-use Rattle.laws_trace.specs.Managing.{Managed, Checked, is_on, is_full, comes, owes, gives, asks, requested, is_given, free_tei, checks, is_asked, defers, verified, others, over, leaves, removes, responded, several, ran_out, by_message, by_frame, by_request, by_event, manages, grants}
+use Rattle.laws_trace.specs.Managing.{Managed, Checked, is_on, is_full, comes, owes, gives, asks, requested, is_given, free_tei, checks, is_asked, defers, verified, others, over, leaves, removes, responded, settling, several, ran_out, by_message, by_frame, by_request, by_event, manages, grants}
 use Rattle.laws_trace.specs.ManagingTerminal.{is_message, teis_of}
 use Rattle.laws_order.specs.teis.Bus.{assigned_in}
 use Rattle.laws_order.specs.teis.Assignments.{IsIn}
@@ -72,11 +72,9 @@ adds-checks tei before w =
 adds-over : (w : Managed) → Adds w (over w)
 adds-over w = go (find (λ tei. list_any (λ later. later == tei) w.later) (teis_of w.places))
   where
-    go : (o : Option ℕ) → Adds w (option_map_or (λ tei. checks tei None (record w { later = others tei w.later })) o (record w { check = None; orders = Stop T201 ∷ [] }))
+    go : (o : Option ℕ) → Adds w (option_map_or (λ tei. settling tei (record w { later = others tei w.later })) o (record w { check = None; orders = Stop T201 ∷ [] }))
     go None = adds-none w _ refl refl refl refl
-    go (Some tei) =
-        let x = adds-checks tei None (record w { later = others tei w.later }) in
-        record { new = x.new; owed = x.owed; none = x.none; on = refl; held = refl; begins = refl }
+    go (Some tei) = adds-none w _ refl refl refl refl
 
 adds-defers : (tei : ℕ) (w : Managed) → Adds w (defers tei w)
 adds-defers tei w = go (list_any (is_asked tei) w.owed)
@@ -246,7 +244,8 @@ module _ (w : Managed) (there : (r : Remembered) → IsIn r w.held → is_on r.t
   responded-so : (tei : ℕ) (check : Checked) → Serves (responded tei w check)
   responded-so tei check =
       either-served (not (check.tei == tei)) _ _ nothing
-      (either-served check.answered _ _ (noted (removes tei w) (Doubled tei ∷ []) (removed-so tei)) (adds-so _ (adds-none w _ refl refl refl refl)))
+      (either-served check.settles _ _ nothing
+      (either-served check.answered _ _ (noted (removes tei w) (Doubled tei ∷ []) (removed-so tei)) (adds-so _ (adds-none w _ refl refl refl refl))))
 
   several-so : (octets : List ℕ) → Serves (several w octets)
   several-so octets =
@@ -296,7 +295,7 @@ module _ (w : Managed) (there : (r : Remembered) → IsIn r w.held → is_on r.t
 
   ran-out-so : (c : Config) (o : Option Checked) → Changes w (option_map_or (ran_out c w) o w)
   ran-out-so c None = nothing
-  ran-out-so c (Some check) = go check.before
+  ran-out-so c (Some check) = either check.settles _ _ (checks-so check.tei None) (go check.before)
     where
       go : (o : Option Bool)
           → Changes w (option_map_or (λ before. cond (before || check.answered) (over w) (record (by_reading c.reading (leaves check.tei w) (removes check.tei w)) { notes = Removed check.tei ∷ [] })) o (checks check.tei (Some check.answered) w))

@@ -19,17 +19,13 @@ pub record IsBrief (t : TeiTold) : Type 0 where
 pub record Counts (n : ℕ) (m : Management) (c : Course) : Type 0 where
   pub reading : c.now.reading ≡ m.reading
   pub waits : may_send c.now ≤ may_send m + n
-  pub lost : c.told.lost ≤ by_reading m.reading 1 2
+  pub lost : c.told.lost ≤ 1
   pub idle : c.told.unserved ≡ true → c ≡ unserved (begun m)
   pub brief : IsBrief c.told
   pub follows : Follows (is_some m.check) c.told.orders (is_some c.now.check)
 
 one_lost : (waiting : List Message) → lost_after waiting 0 ≤ 1
 one_lost waiting = elim (no_room waiting) as (λ b. cond b (0 + 1) 0 ≤ 1) [ true ↦ omega arith | false ↦ omega arith ]
-
-one_of : (r : Reading) → 1 ≤ by_reading r 1 2
-one_of Profile = omega arith
-one_of AnnexB = omega arith
 
 served : (c d : Course) (b : Bool) → b ≡ false → b ≡ true → c ≡ d
 served c d b not_so so = absurd (false≢true (sym not_so ∙ so))
@@ -41,7 +37,7 @@ module _ (m : Management) (n : ℕ) (one : 1 ≤ n) where
   sends one_message c reading waits due lost was notes orders follows = record {
     reading = reading;
     waits = omega (arith, one, due, ap length waits, one_waits one_message m.waiting);
-    lost = omega (arith, lost, one_lost m.waiting, one_of m.reading);
+    lost = omega (arith, lost, one_lost m.waiting);
     idle = λ is. served c (unserved (begun m)) c.told.unserved was is;
     brief = record { notes = notes; orders = orders };
     follows = follows;
@@ -52,17 +48,13 @@ module _ (m : Management) (n : ℕ) (one : 1 ≤ n) where
   quiet c reading waits due lost was notes orders follows = record {
     reading = reading;
     waits = omega (arith, waits, due);
-    lost = omega (arith, lost, one_of m.reading);
+    lost = lost;
     idle = λ is. served c (unserved (begun m)) c.told.unserved was is;
     brief = record { notes = notes; orders = orders };
     follows = follows;
   }
 
   -- one that ends a check, and its TEI stays or leaves
-  two_lost : (r : Reading) (a b : ℕ) → a ≤ 1 → b ≤ by_reading r a (a + 1) → b ≤ by_reading r 1 2
-  two_lost Profile a b few most = omega (arith, few, most)
-  two_lost AnnexB a b few most = omega (arith, few, most)
-
   one_order : (c d : Course) (e : HasEnded c d) → c.told.orders ≡ [] → (length d.told.orders ≤ 1) × ((b : Bool) → Follows b d.told.orders (is_some d.now.check))
   one_order c d e none =
       let (o, is, follows) = e.ordered in
@@ -73,7 +65,7 @@ module _ (m : Management) (n : ℕ) (one : 1 ≤ n) where
   ends_so c d e reading waits lost notes orders was = record {
     reading = e.reading ∙ reading;
     waits = omega (arith, e.waits, waits);
-    lost = two_lost m.reading c.told.lost d.told.lost lost (subst (λ r. d.told.lost ≤ by_reading r c.told.lost (c.told.lost + 1)) reading e.lost);
+    lost = omega (arith, e.lost, lost);
     idle = λ is. served d (unserved (begun m)) d.told.unserved (e.unserved ∙ was) is;
     brief = record { notes = subst (λ l. length l ≤ 1) (sym e.notes) notes; orders = (one_order c d e orders).0 };
     follows = (one_order c d e orders).1 (is_some m.check);
@@ -114,7 +106,7 @@ later : (m : Management) (waiting : List Message) (lost tei : ℕ) → m.reading
 later m waiting lost tei read few little = record {
   reading = refl;
   waits = omega (arith, few, more (place_of tei m.places) m.to_check);
-  lost = subst (λ r. lost ≤ by_reading r 1 2) (sym read) (omega (arith, little));
+  lost = little;
   idle = λ is. absurd (false≢true is);
   brief = record { notes = omega arith; orders = omega arith };
   follows = refl;
@@ -131,7 +123,7 @@ in_two m n c is read w = subst (λ k. Counts k m c) (sym (is ∙ ap (λ r. by_re
 messages : (m : Management) (n : ℕ) → 1 ≤ n → n ≡ by_reading m.reading 1 2 → OfMessages m (Counts n m)
 messages m n one two =
     record {
-      is_unserved = record { reading = refl; waits = omega arith; lost = omega (arith, one_of m.reading); idle = λ _. refl; brief = record { notes = omega arith; orders = omega arith }; follows = refl };
+      is_unserved = record { reading = refl; waits = omega arith; lost = omega arith; idle = λ _. refl; brief = record { notes = omega arith; orders = omega arith }; follows = refl };
       is_lost = quiet m n one _ refl (omega arith) (omega arith) (omega arith) refl (omega arith) (omega arith) refl;
       is_denied = λ ri tei few. sends m n one (IdentityDenied ri tei) _ refl refl (omega arith) refl refl (omega arith) (omega arith) refl;
       comes_again = λ ri tei is. sends m n one (IdentityAssigned ri tei) _ refl refl (omega arith) refl refl (omega arith) (omega arith) refl;
@@ -151,6 +143,7 @@ ways e m n one two = record {
   expiries = record {
     is_idle = λ is. still m n one _ refl;
     asks_again = λ own is. sends m n one (IdentityCheckRequest own.tei) _ refl refl (omega arith) refl refl (omega arith) (omega arith) refl;
+    has_settled = λ own is. begins m n one own.tei;
     is_removed = λ own is. goes_after m n one own.tei (note (Removed own.tei) (begun m)) refl (omega arith) (omega arith) (omega arith) refl refl;
     is_told = λ own read is.
         goes_after m n one own.tei (send (IdentityRemove own.tei) (note (Removed own.tei) (begun m))) refl (said m n one (IdentityRemove own.tei)) (one_lost m.waiting) (omega arith) refl refl;

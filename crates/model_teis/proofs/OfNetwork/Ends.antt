@@ -1,16 +1,16 @@
 -- What the end of a check leaves: none runs any more, or the next does.
-use Rattle.model_teis.proofs.OfNetwork.Vocabulary.{arith, ◌≡◌, ℕ, ◌+◌, ◌≤◌, ◌==◌, nat_tests, Bool, true, false, cond, is_some, List, [], ◌∷◌, ◌++◌, length, length-append, get_or, position, list_any, sum_by, Option, Some, None, IfSome, refl, sym, subst, Order, Reading, Profile, AnnexB, by_reading, Message, IdentityCheckRequest}
-use Rattle.model_teis.proofs.OfNetwork.Vocabulary.{Check, First, Course, Follows, is_checked, one_if, is_due, tei_at, may_send, due_at, begin_next, begin_check, check_next, stop_check, end_check, lowest_is_not_due, no_room, with_message, lost_after, IsSound, IsSoundCheck, IsSoundQueue, AreSoundChecks, IsAsRead, MayBeDue}
+use Rattle.model_teis.proofs.OfNetwork.Vocabulary.{arith, ◌≡◌, ℕ, ◌+◌, ◌≤◌, ◌==◌, nat_tests, Bool, true, false, cond, is_some, List, [], ◌∷◌, ◌++◌, length, length-append, get_or, position, list_any, sum_by, Option, Some, None, IfSome, refl, sym, subst, Order, Reading, Profile, AnnexB, by_reading, Message}
+use Rattle.model_teis.proofs.OfNetwork.Vocabulary.{Check, Settling, Course, Follows, is_checked, one_if, is_due, tei_at, may_send, due_at, begin_next, check_next, settle, stop_check, end_check, lowest_is_not_due, with_message, IsSound, IsSoundCheck, AreSoundChecks, IsAsRead, MayBeDue}
 use Rattle.model_teis.proofs.Tables.{is_on-at, same_number}
 use Rattle.model_teis.proofs.OfNetwork.Dues.{dues-none, dues-next, due-there, nobody, none-lowest, lowest_less, read-less}
-use Rattle.model_teis.proofs.OfNetwork.SoundWords.{check-begun, queue-sent}
+use Rattle.model_teis.proofs.OfNetwork.SoundWords.{check-settles}
 use Rattle.model_teis.proofs.OfNetwork.Walk.{as_read}
 
 -- Of each way: the next that is due is at the lowest place.
 pub record OfEnds (c : Course) (E : Course → Type 0) : Type 0 where
   pub stops : list_any is_due c.now.to_check ≡ false → E (stop_check c)
   pub goes_on : (place tei : ℕ) → c.now.reading ≡ AnnexB → position is_due c.now.to_check ≡ Some place → get_or c.now.places place None ≡ Some tei
-      → E (begin_check tei (lowest_is_not_due c))
+      → E (settle tei (lowest_is_not_due c))
 
 none_read : (r : Reading) (c : Course) → r ≡ Profile → IsAsRead r c.now.remembered c.now.to_check → list_any is_due c.now.to_check ≡ false
 none_read r c is read = subst (λ x. IsAsRead x c.now.remembered c.now.to_check) is read
@@ -43,12 +43,11 @@ module _ (c : Course) (E : Course → Type 0) where
 
 -- What it keeps of sound management
 pub record IsEnded (c : Course) (own : Check) (d : Course) : Type 0 where
-  pub checked : IfSome d.now.check (IsSoundCheck c.now.places)
+  pub checked : IfSome d.now.check (IsSoundCheck c.now.reading c.now.places)
   pub other : is_checked own.tei d.now.check ≡ false
   pub due : AreSoundChecks c.now.places d.now.check d.now.to_check
   pub read : IsAsRead c.now.reading c.now.remembered d.now.to_check
-  pub queue : IsSoundQueue d.now.waiting
-  pub now : d.now ≡ record c.now { check = d.now.check; to_check = d.now.to_check; waiting = d.now.waiting }
+  pub now : d.now ≡ record c.now { check = d.now.check; to_check = d.now.to_check }
   pub change : d.told.change ≡ c.told.change
 
 pub ended : (c : Course) (own : Check) → IsSound c.now → c.now.check ≡ Some own → IsEnded c own (end_check c)
@@ -58,40 +57,29 @@ ended c own sound runs = of_end c (IsEnded c own) (record {
     other = refl;
     due = dues-none c.now.places None c.now.to_check sound.due.each none;
     read = sound.read;
-    queue = sound.queue;
     now = refl;
     change = refl;
   };
   goes_on = λ place tei read first at. record {
-    checked = check-begun c.now.places tei (is_on-at c.now.places place tei at);
+    checked = check-settles c.now.reading c.now.places tei read (is_on-at c.now.places place tei at);
     other = apart own.tei tei (subst (λ o. MayBeDue o (Some own)) at (subst (MayBeDue (get_or c.now.places place None)) runs (due-there c.now.places c.now.check c.now.to_check place first sound.due)));
-    due = subst (λ o. AreSoundChecks c.now.places (Some (record { tei = tei; period = First; first = 0; second = 0 })) (due_at o false c.now.to_check)) (sym first)
-        (dues-next c.now.places c.now.check c.now.to_check (record { tei = tei; period = First; first = 0; second = 0 }) place first at sound.table sound.due);
+    due = subst (λ o. AreSoundChecks c.now.places (Some (record { tei = tei; period = Settling; first = 0; second = 0 })) (due_at o false c.now.to_check)) (sym first)
+        (dues-next c.now.places c.now.check c.now.to_check (record { tei = tei; period = Settling; first = 0; second = 0 }) place first at sound.table sound.due);
     read = read-less c.now.reading c.now.remembered c.now.to_check (position is_due c.now.to_check) sound.read;
-    queue = queue-sent (IdentityCheckRequest tei) c.now.waiting sound.queue (omega (arith, sound.table.range place tei at));
     now = refl;
     change = refl;
   };
 }) sound
 
--- and of all management: how many messages wait and are lost, what is told, and what is ordered.
+-- and of all management: no message is sent; and what is told, and what is ordered.
 pub record HasEnded (c d : Course) : Type 0 where
   pub reading : d.now.reading ≡ c.now.reading
   pub places : d.now.places ≡ c.now.places
   pub waits : may_send d.now ≤ may_send c.now
-  pub lost : d.told.lost ≤ by_reading c.now.reading c.told.lost (c.told.lost + 1)
+  pub lost : d.told.lost ≡ c.told.lost
   pub notes : d.told.notes ≡ c.told.notes
   pub unserved : d.told.unserved ≡ c.told.unserved
   pub ordered : (o : Order) × (d.told.orders ≡ c.told.orders ++ o ∷ []) × ((b : Bool) → Follows b (o ∷ []) (is_some d.now.check))
-
-as_much : (r : Reading) (n : ℕ) → n ≤ by_reading r n (n + 1)
-as_much Profile n = omega arith
-as_much AnnexB n = omega arith
-
-one_more_lost : (r : Reading) (waiting : List Message) (n : ℕ) → r ≡ AnnexB → lost_after waiting n ≤ by_reading r n (n + 1)
-one_more_lost r waiting n is =
-    subst (λ x. lost_after waiting n ≤ by_reading x n (n + 1)) (sym is)
-    (elim (no_room waiting) as (λ b. cond b (n + 1) n ≤ n + 1) [ true ↦ omega arith | false ↦ omega arith ])
 
 pub one_waits : (message : Message) (waiting : List Message) → length (with_message message waiting) ≤ length waiting + 1
 one_waits message waiting = grind (arith, length-append)
@@ -101,7 +89,7 @@ stopped c = record {
   reading = refl;
   places = refl;
   waits = omega arith;
-  lost = as_much c.now.reading c.told.lost;
+  lost = refl;
   notes = refl;
   unserved = refl;
   ordered = (_, refl, λ b. refl);
@@ -110,24 +98,24 @@ stopped c = record {
 fewer_due : (due : List Bool) (o : Option ℕ) (place : ℕ) → o ≡ Some place → position is_due due ≡ Some place → sum_by one_if (due_at o false due) + 1 ≡ sum_by one_if due
 fewer_due due o place is first = subst (λ x. sum_by one_if (due_at x false due) + 1 ≡ sum_by one_if due) (sym is) (lowest_less due place first)
 
-gone_on : (c : Course) (place tei : ℕ) → c.now.reading ≡ AnnexB → position is_due c.now.to_check ≡ Some place → HasEnded c (begin_check tei (lowest_is_not_due c))
-gone_on c place tei read first = record {
+gone_on : (c : Course) (place tei : ℕ) → position is_due c.now.to_check ≡ Some place → HasEnded c (settle tei (lowest_is_not_due c))
+gone_on c place tei first = record {
   reading = refl;
   places = refl;
-  waits = omega (arith, one_waits (IdentityCheckRequest tei) c.now.waiting, fewer_due c.now.to_check (position is_due c.now.to_check) place first first);
-  lost = one_more_lost c.now.reading c.now.waiting c.told.lost read;
+  waits = omega (arith, fewer_due c.now.to_check (position is_due c.now.to_check) place first first);
+  lost = refl;
   notes = refl;
   unserved = refl;
   ordered = (_, refl, λ b. refl);
 }
 
-next_ended : (c : Course) (o : Option ℕ) → c.now.reading ≡ AnnexB → position is_due c.now.to_check ≡ o → HasEnded c (begin_next (tei_at c.now.places o) c)
-next_ended c None read first = stopped c
-next_ended c (Some place) read first = at (get_or c.now.places place None)
+next_ended : (c : Course) (o : Option ℕ) → position is_due c.now.to_check ≡ o → HasEnded c (begin_next (tei_at c.now.places o) c)
+next_ended c None first = stopped c
+next_ended c (Some place) first = at (get_or c.now.places place None)
   where
     at : (o : Option ℕ) → HasEnded c (begin_next o c)
     at None = stopped c
-    at (Some tei) = gone_on c place tei read first
+    at (Some tei) = gone_on c place tei first
 
 pub has_ended : (c : Course) → HasEnded c (end_check c)
-has_ended c = as_read (HasEnded c) c.now.reading (stop_check c) (check_next c) (λ is. stopped c) (λ is. next_ended c (position is_due c.now.to_check) is refl)
+has_ended c = as_read (HasEnded c) c.now.reading (stop_check c) (check_next c) (λ is. stopped c) (λ is. next_ended c (position is_due c.now.to_check) refl)

@@ -25,6 +25,7 @@ unfolding course refusal
 expired_t201_follows m = of_expire m OnExpiry (record {
   is_idle = λ none. rw none refl;
   asks_again = λ own is. refl;
+  has_settled = λ own is. refl;
   is_removed = λ own is. after_end (note (Removed own.tei) (begun m)) refl;
   is_told = λ own read is. after_end (send (IdentityRemove own.tei) (note (Removed own.tei) (begun m))) refl;
   ends = λ own is. after_end (begun m) refl;

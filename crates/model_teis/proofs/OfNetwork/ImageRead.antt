@@ -6,7 +6,7 @@ use Rattle.model_bits.proofs.BitLemmas.{low_bits-number_of, low_bits-number_of_n
 use Rattle.model_teis.specs.network.Machine.{Management}
 use Rattle.model_teis.specs.declared.network.check.Check.{Check}
 use Rattle.model_teis.specs.declared.network.check.Period.{Period}
-use Rattle.model_teis.specs.declared.network.check.Period.TheVariants.{First, Second}
+use Rattle.model_teis.specs.declared.network.check.Period.TheVariants.{First, Second, Settling}
 use Rattle.model_teis.specs.declared.network.remembered.Remembered.{Remembered}
 use Rattle.model_teis.specs.Information.{information}
 use Rattle.model_teis.specs.network.Messages.{information_of}
@@ -51,12 +51,18 @@ remembered-read x y r s few also e =
 pub period-read : (p q : Period) → period_number p ≡ period_number q → p ≡ q
 period-read First First e = refl
 period-read First Second e = absurd (omega (arith, e))
+period-read First Settling e = absurd (omega (arith, e))
 period-read Second First e = absurd (omega (arith, e))
 period-read Second Second e = refl
+period-read Second Settling e = absurd (omega (arith, e))
+period-read Settling First e = absurd (omega (arith, e))
+period-read Settling Second e = absurd (omega (arith, e))
+period-read Settling Settling e = refl
 
 pub period-some : (p : Period) → 1 ≤ period_number p
 period-some First = omega arith
 period-some Second = omega arith
+period-some Settling = omega arith
 
 -- the check
 pub check-read : Reads (λ (c : Option Check). Unit {0}) (λ (c d : Option Check). c ≡ d) check

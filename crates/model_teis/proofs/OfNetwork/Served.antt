@@ -1,7 +1,7 @@
 -- What each row of the table keeps.
 use Rattle.model_teis.proofs.OfNetwork.Vocabulary.{◌≡◌, ℕ, ◌≤◌, true, false, set, Option, Some, None, IfSome, subst, refl, sym, arith, List, [], option_map, IdentityAssigned, IdentityDenied, IdentityCheckRequest, IdentityRemove, Message, action_of, Places, is_on, place_of, free_place, Management, Check, Remembered, TeiTold, Gained, Course, with_message, freed, left, is_of_other, Event, IsInRange}
 use Rattle.lapd_frame.specs.declared.notes.Note.TheVariants.{Doubled, Removed}
-use Rattle.model_teis.proofs.OfNetwork.Vocabulary.{◌==◌, ◌∙◌, Bool, length, length-replicate, replicate, AnnexB, Second, AreSoundChecks, IsAsRead, MayBeDue, begin_check, begun, check_is_due, counted, due_at, end_check, is_checked, leave, note, nothing, send}
+use Rattle.model_teis.proofs.OfNetwork.Vocabulary.{◌==◌, ◌∙◌, Bool, length, length-replicate, replicate, AnnexB, First, Second, AreSoundChecks, IsAsRead, MayBeDue, begin_check, begun, check_is_due, counted, due_at, end_check, is_checked, leave, note, nothing, send}
 use Rattle.model_teis.proofs.OfNetwork.Vocabulary.{IsSoundCheck, IsSoundQueue, IsSound, IsSoundMemory, Moves, course, filter}
 use Rattle.model_teis.proofs.Tables.{table-freed, on-newcomer, on-range, free_tei-is, free_place-is, place_of-is}
 use Rattle.model_teis.proofs.OfNetwork.Memories.{memory-put, memory-as_read, memory-freed, remembered-range}
@@ -25,7 +25,7 @@ moved_out places tei =
 
 module _ (m : Management) (sound : IsSound m) where
   -- the table stays as it is,
-  stays : (check : Option Check) (to_check : List Bool) (waiting : List Message) (told : TeiTold) → told.change ≡ None → IfSome check (IsSoundCheck m.places)
+  stays : (check : Option Check) (to_check : List Bool) (waiting : List Message) (told : TeiTold) → told.change ≡ None → IfSome check (IsSoundCheck m.reading m.places)
       → AreSoundChecks m.places check to_check → IsAsRead m.reading m.remembered to_check → IsSoundQueue waiting
       → Leads m (record { now = record m { check = check; to_check = to_check; waiting = waiting }; told = told })
   stays check to_check waiting told change checked due read queue = record {
@@ -54,7 +54,7 @@ module _ (m : Management) (sound : IsSound m) where
 
   -- or leaves
   goes : (tei : ℕ) (check : Option Check) (to_check : List Bool) (waiting : List Message) (told : TeiTold) → told.change ≡ option_map (left tei) (place_of tei m.places)
-      → is_checked tei check ≡ false → IfSome check (IsSoundCheck m.places) → AreSoundChecks m.places check to_check → IsAsRead m.reading m.remembered to_check → IsSoundQueue waiting
+      → is_checked tei check ≡ false → IfSome check (IsSoundCheck m.reading m.places) → AreSoundChecks m.places check to_check → IsAsRead m.reading m.remembered to_check → IsSoundQueue waiting
       → Leads m (record {
         now = record m {
           places = freed m.places (place_of tei m.places);
@@ -69,7 +69,7 @@ module _ (m : Management) (sound : IsSound m) where
     sound = record {
       table = table-freed m.places tei sound.table;
       memory = memory-freed m.places m.remembered tei sound.memory;
-      checked = check-freed m.places check tei other checked;
+      checked = check-freed m.reading m.places check tei other checked;
       due = dues-freed m.places check to_check tei due;
       queue = queue;
       read = read-less m.reading (filter (is_of_other tei) m.remembered) to_check (place_of tei m.places) (read-leaving m.reading m.remembered to_check (is_of_other tei) read);
@@ -86,7 +86,7 @@ module _ (m : Management) (sound : IsSound m) where
   ends own is =
       let d = end_check (begun m) in
       let e = ends_so own m.waiting nothing refl is sound.queue in
-      subst (λ n. Leads m (record { now = n; told = d.told })) (sym e.now) (stays d.now.check d.now.to_check d.now.waiting d.told e.change e.checked e.due e.read e.queue)
+      subst (λ n. Leads m (record { now = n; told = d.told })) (sym e.now) (stays d.now.check d.now.to_check m.waiting d.told e.change e.checked e.due e.read sound.queue)
 
   goes_after : (own : Check) (waiting : List Message) (told : TeiTold) → told.change ≡ None → m.check ≡ Some own → IsSoundQueue waiting
       → Leads m (leave own.tei (end_check (record { now = record m { waiting = waiting }; told = told })))
@@ -94,7 +94,7 @@ module _ (m : Management) (sound : IsSound m) where
       let d = end_check (record { now = record m { waiting = waiting }; told = told }) in
       let e = ends_so own waiting told change is queue in
       subst (λ n. Leads m (leave own.tei (record { now = n; told = d.told }))) (sym e.now)
-      (goes own.tei d.now.check d.now.to_check d.now.waiting _ refl e.other e.checked e.due e.read e.queue)
+      (goes own.tei d.now.check d.now.to_check waiting _ refl e.other e.checked e.due e.read queue)
 
   -- what the words keep, and so each way in which an event ends
   sent : (message : Message) → action_of message ≤ 127 → IsSoundQueue (with_message message m.waiting)
@@ -103,14 +103,14 @@ module _ (m : Management) (sound : IsSound m) where
   low : (tei : ℕ) → is_on tei m.places ≡ true → tei ≤ 127
   low tei on = omega (arith, on-range m.places tei sound.table on)
 
-  checked_is : (own : Check) → m.check ≡ Some own → IsSoundCheck m.places own
-  checked_is own is = subst (λ o. IfSome o (IsSoundCheck m.places)) is sound.checked
+  checked_is : (own : Check) → m.check ≡ Some own → IsSoundCheck m.reading m.places own
+  checked_is own is = subst (λ o. IfSome o (IsSoundCheck m.reading m.places)) is sound.checked
 
   removes : (own : Check) → m.check ≡ Some own → IsSoundQueue (with_message (IdentityRemove own.tei) m.waiting)
   removes own is = sent (IdentityRemove own.tei) (low own.tei (checked_is own is).on_line)
 
   begins : (tei : ℕ) → is_on tei m.places ≡ true → m.check ≡ None → Leads m (begin_check tei (begun m))
-  begins tei on is = stays _ _ _ _ refl (check-begun m.places tei on) (dues-idle m.places m.check m.to_check _ is sound.due) sound.read (sent (IdentityCheckRequest tei) (low tei on))
+  begins tei on is = stays _ _ _ _ refl (check-begun m.reading m.places tei on) (dues-idle m.places m.check m.to_check _ is sound.due) sound.read (sent (IdentityCheckRequest tei) (low tei on))
 
   later : (own : Check) (tei : ℕ) (waiting : List Message) (told : TeiTold) → told.change ≡ None → m.reading ≡ AnnexB → m.check ≡ Some own → (own.tei == tei) ≡ false → IsSoundQueue waiting
       → Leads m (check_is_due tei (record { now = record m { waiting = waiting }; told = told }))
@@ -134,7 +134,7 @@ module _ (m : Management) (sound : IsSound m) where
     is_later = λ own tei read on is other. later own tei _ _ refl read is other (sent (IdentityCheckRequest tei) (low tei on));
     is_still_asked = λ own tei read on is other. later own tei _ _ refl read is other sound.queue;
     is_counted = λ own is few.
-        stays _ m.to_check _ _ refl (check-counted m.places own (checked_is own is) few) (dues-same m.places m.check m.to_check own (counted own) is (same-counted own) sound.due) sound.read sound.queue;
+        stays _ m.to_check _ _ refl (check-counted m.reading m.places own (checked_is own is) few) (dues-same m.places m.check m.to_check own (counted own) is (same-counted own) sound.due) sound.read sound.queue;
     is_doubled = λ own is. goes_after own _ (send (IdentityRemove own.tei) (note (Doubled own.tei) (begun m))).told refl is (removes own is);
   }
 
@@ -145,7 +145,12 @@ module _ (m : Management) (sound : IsSound m) where
       is_idle = λ is. stands_still _ refl;
       asks_again = λ own is.
           let checked = checked_is own is in
-          stays _ m.to_check _ _ refl (check-again m.places own checked) (dues-same m.places m.check m.to_check own (record own { period = Second }) is refl sound.due) sound.read
+          stays _ m.to_check _ _ refl (check-again m.reading m.places own checked) (dues-same m.places m.check m.to_check own (record own { period = Second }) is refl sound.due) sound.read
+          (sent (IdentityCheckRequest own.tei) (low own.tei checked.on_line));
+      has_settled = λ own is.
+          let checked = checked_is own is in
+          stays _ m.to_check _ _ refl (check-begun m.reading m.places own.tei checked.on_line)
+          (dues-same m.places m.check m.to_check own (record { tei = own.tei; period = First; first = 0; second = 0 }) is refl sound.due) sound.read
           (sent (IdentityCheckRequest own.tei) (low own.tei checked.on_line));
       is_removed = λ own is. goes_after own _ (note (Removed own.tei) (begun m)).told refl is sound.queue;
       is_told = λ own read is. goes_after own _ (send (IdentityRemove own.tei) (note (Removed own.tei) (begun m))).told refl is (removes own is);

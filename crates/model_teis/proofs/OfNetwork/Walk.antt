@@ -29,6 +29,7 @@ pub record OfMessages (m : Management) (E : Course → Type 0) : Type 0 where
 pub record OfExpiries (m : Management) (E : Course → Type 0) : Type 0 where
   pub is_idle : m.check ≡ None → E (begun m)
   pub asks_again : (own : Check) → m.check ≡ Some own → E (expire_period own First (begun m))
+  pub has_settled : (own : Check) → m.check ≡ Some own → E (begin_check own.tei (begun m))
   pub is_removed : (own : Check) → m.check ≡ Some own → E (leave own.tei (end_check (note (Removed own.tei) (begun m))))
   pub is_told : (own : Check) → m.reading ≡ AnnexB → m.check ≡ Some own → E (leave own.tei (end_check (send (IdentityRemove own.tei) (note (Removed own.tei) (begun m)))))
   pub ends : (own : Check) → m.check ≡ Some own → E (end_check (begun m))

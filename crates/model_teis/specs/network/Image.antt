@@ -9,7 +9,7 @@ use Rattle.model_teis.specs.Table.{Places}
 use Rattle.model_teis.specs.TableImage.{table}
 use Rattle.model_teis.specs.declared.network.check.Check.{Check}
 use Rattle.model_teis.specs.declared.network.check.Period.{Period}
-use Rattle.model_teis.specs.declared.network.check.Period.TheVariants.{First, Second}
+use Rattle.model_teis.specs.declared.network.check.Period.TheVariants.{First, Second, Settling}
 use Rattle.model_teis.specs.declared.network.remembered.Remembered.{Remembered}
 use Rattle.model_bits.specs.Bits.{number_of}
 use Rattle.model_bits.specs.StuffingLaws.{AreOctets}
@@ -18,10 +18,12 @@ use Rattle.model_bits.specs.StuffingLaws.{AreOctets}
 abbrev pub remembered : Remembered → List ℕ
 remembered r = number 2 r.ri ++ r.tei ∷ []
 
--- The check that runs: 0 if none does. Otherwise its period, 1 or 2, the TEI, and how many responses came in each period.
+-- The check that runs: 0 if none does. Otherwise its period, 1 or 2, or 3 while it settles, the TEI, and how many responses
+-- came in each period.
 abbrev pub period_number : Period → ℕ
 period_number First = 1
 period_number Second = 2
+period_number Settling = 3
 
 abbrev pub check : Option Check → List ℕ
 check None = 0 ∷ []

@@ -92,7 +92,7 @@ abbrev pub OneIsFree : Type 0
 OneIsFree = (places : Places) → length places < 63 → IsSome (free_tei places)
 
 -- An event lets at most one message more wait, and loses at most one; by annex B a message that is heard lets two wait, one of
--- them with a check that is due, and the end of a check may lose two. A pull lets one fewer wait, or finds none.
+-- them with a check that is due. A pull lets one fewer wait, or finds none.
 abbrev pub most_heard : Event → ℕ
 most_heard (message octets) = 2
 most_heard other = 1
@@ -101,7 +101,7 @@ abbrev pub FewMoreWait : Type 0
 FewMoreWait = (e : Event) (m : Management) → may_send (after e m) ≤ may_send m + by_reading m.reading 1 (most_heard e)
 
 abbrev pub FewAreLost : Type 0
-FewAreLost = (e : Event) (m : Management) → (told e m).lost ≤ by_reading m.reading 1 2
+FewAreLost = (e : Event) (m : Management) → (told e m).lost ≤ 1
 
 abbrev pub taken : Option (List ℕ) → ℕ
 taken None = 0

@@ -7,7 +7,7 @@ use Rattle.model_teis.specs.Table.{Places, place_of, tei_at}
 pub use Rattle.model_teis.specs.declared.network.remembered.Remembered.{Remembered}
 pub use Rattle.model_teis.specs.declared.network.check.Check.{Check}
 pub use Rattle.model_teis.specs.declared.network.check.Period.{Period}
-pub use Rattle.model_teis.specs.declared.network.check.Period.TheVariants.{First, Second}
+pub use Rattle.model_teis.specs.declared.network.check.Period.TheVariants.{First, Second, Settling}
 pub use Rattle.model_teis.specs.declared.changes.Change.{Change}
 pub use Rattle.model_teis.specs.declared.changes.Change.TheVariants.{Gained, Left}
 pub use Rattle.model_teis.specs.Told.{TeiTold, nothing}

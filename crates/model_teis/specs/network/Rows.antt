@@ -6,7 +6,7 @@ use Rattle.lapd_frame.specs.declared.timers.Order.TheVariants.{Start}
 use Rattle.lapd_frame.specs.declared.timers.Timer.TheVariants.{T201}
 use Rattle.model_teis.specs.network.Messages.{IdentityAssigned, IdentityDenied, IdentityCheckRequest, IdentityRemove, Message, Heard, IdentityRequest, IdentityRequestOf, IdentityCheckResponse, IdentityVerify, heard_in, names, responses_in}
 use Rattle.model_teis.specs.Table.{is_on, free_place, free_tei}
-use Rattle.model_teis.specs.network.Machine.{Remembered, Check, Period, First, Second}
+use Rattle.model_teis.specs.network.Machine.{Remembered, Check, Period, First, Second, Settling}
 use Rattle.model_teis.specs.Steps.{◌then◌, nothing_happens}
 use Rattle.model_teis.specs.network.Words.{Step, read_as, no_check_is_due, check_is_due, no_room, send, withdraw, lose_one, note, order, unserved, join, remember, leave, check_is, begin_check, stop_check, end_check}
 
@@ -75,15 +75,16 @@ verify_beside tei (Some check) = if check.tei == tei then unserved else verify_l
 abbrev pub verify : ℕ → Step
 verify tei c = (if is_on tei c.now.places then verify_beside tei c.now.check else unserved) c
 
--- A check response of the TEI under check (clause 5.3.3.2) counts in the period that runs.
+-- A check response of the TEI under check (clause 5.3.3.2) counts in the period that runs; while the check settles, in none.
 abbrev pub counted : Check → Check
 counted check = elim check.period [
   | First ↦ record check { first = check.first + 1 }
   | Second ↦ record check { second = check.second + 1 }
+  | Settling ↦ check
 ]
 
 abbrev pub responses : Check → ℕ
-responses check = elim check.period [ First ↦ check.first | Second ↦ check.second ]
+responses check = elim check.period [ First ↦ check.first | Second ↦ check.second | Settling ↦ 0 ]
 
 -- The second response of one period tells of a second terminal with the TEI, which leaves the line (clause 5.3.4).
 abbrev pub doubled : ℕ → Step
@@ -119,8 +120,8 @@ hear octets = serve (heard_in octets) (responses_in octets)
 
 -- T201 has expired (clause 5.3.3.2). In the first period the check is asked for again. At the end of the second the
 -- check ends, and a TEI without a response in either period leaves the line (clauses 5.3.3.2 and 5.3.4); by annex B the
--- terminals with it are told so (clause 5.3.4.2), in the profile not. Where no check runs, T201 does not run, and nothing
--- happens (profile).
+-- terminals with it are told so (clause 5.3.4.2), in the profile not. A check that has settled begins. Where no check runs,
+-- T201 does not run, and nothing happens (profile).
 abbrev pub removed : ℕ → Step
 removed tei = note (Removed tei) then read_as nothing_happens (send (IdentityRemove tei)) then end_check then leave tei
 
@@ -131,6 +132,7 @@ abbrev pub expire_period : Check → Period → Step
 expire_period check First =
     send (IdentityCheckRequest check.tei) then order (Start T201) then check_is (Some (record check { period = Second }))
 expire_period check Second = if is_unanswered check then removed check.tei else end_check
+expire_period check Settling = begin_check check.tei
 
 abbrev pub expire_check : Option Check → Step
 expire_check None = nothing_happens

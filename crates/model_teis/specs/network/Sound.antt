@@ -5,7 +5,7 @@ use Rattle.lapd_frame.specs.declared.readings.Reading.{Reading}
 use Rattle.lapd_frame.specs.declared.readings.Reading.TheVariants.{Profile, AnnexB}
 use Rattle.model_teis.specs.network.Messages.{Message, action_of}
 use Rattle.model_teis.specs.Table.{Places, is_on, IsSoundTable}
-use Rattle.model_teis.specs.network.Machine.{Management, Remembered, Check, is_due}
+use Rattle.model_teis.specs.network.Machine.{Management, Remembered, Check, Period, Settling, is_due}
 
 -- At most four assignments are remembered. None has the Ri or the TEI of another, and each TEI is on the line.
 abbrev pub same_ri : Remembered → Remembered → Bool
@@ -20,11 +20,17 @@ pub record IsSoundMemory (places : Places) (remembered : List Remembered) : Type
   pub one_tei : IsDistinct same_tei remembered
   pub on_line : All (λ r. is_on r.tei places ≡ true) remembered
 
+-- A check settles only by annex B, and has no response then.
+abbrev pub MayBeIn : Reading → Check → Period → Type 0
+MayBeIn reading check Settling = (reading ≡ AnnexB) × (check.first ≡ 0) × (check.second ≡ 0)
+MayBeIn reading check period = Unit {0}
+
 -- A check is of a TEI that is on the line, and has at most one response in each period: the second ends it.
-pub record IsSoundCheck (places : Places) (check : Check) : Type 0 where
+pub record IsSoundCheck (reading : Reading) (places : Places) (check : Check) : Type 0 where
   pub on_line : is_on check.tei places ≡ true
   pub first : check.first ≤ 1
   pub second : check.second ≤ 1
+  pub settled : MayBeIn reading check check.period
 
 -- A check is due only while another runs, and only of a TEI on the line that is not under that check.
 abbrev pub MayBeDue : Option ℕ → Option Check → Type 0
@@ -48,7 +54,7 @@ pub record IsSoundQueue (waiting : List Message) : Type 0 where
 pub record IsSound (m : Management) : Type 0 where
   pub table : IsSoundTable m.places
   pub memory : IsSoundMemory m.places m.remembered
-  pub checked : IfSome m.check (IsSoundCheck m.places)
+  pub checked : IfSome m.check (IsSoundCheck m.reading m.places)
   pub due : AreSoundChecks m.places m.check m.to_check
   pub queue : IsSoundQueue m.waiting
   pub read : IsAsRead m.reading m.remembered m.to_check

@@ -10,7 +10,7 @@ use Rattle.model_teis.specs.network.Messages.{Message, IdentityCheckRequest}
 use Rattle.model_teis.specs.Steps.{◌then◌}
 use Rattle.model_teis.specs.Table.{place_of, freed}
 use Rattle.model_teis.specs.Changes.{left}
-use Rattle.model_teis.specs.network.Machine.{Management, TeiTold, nothing, is_due, next_checked, Remembered, Check, First, Gained, messages_limit, remembered_limit}
+use Rattle.model_teis.specs.network.Machine.{Management, TeiTold, nothing, is_due, next_checked, Remembered, Check, First, Settling, Gained, messages_limit, remembered_limit}
 
 -- an event under way: where things stand, and what is told so far
 pub record Course : Type 0 where
@@ -116,14 +116,19 @@ lowest_is_not_due c = record c { now = record c.now { to_check = due_at (positio
 abbrev pub no_check_is_due : Step
 no_check_is_due c = record c { now = record c.now { to_check = replicate (length c.now.to_check) false } }
 
--- A check ends, and with it T201 (profile). By annex B, of those that are due the one at the lowest place begins (clause 5.3.5);
--- if none is, T201 stops.
+-- A check settles first if it was due: its terminal may just have been asked (clause 5.3.5), and an answer to that is not to
+-- count. So T201 runs once before the check begins, and no message is sent (profile).
+abbrev pub settle : ℕ → Step
+settle tei = order (Start T201) then check_is (Some (record { tei = tei; period = Settling; first = 0; second = 0 }))
+
+-- A check ends, and with it T201 (profile). By annex B, of those that are due the one at the lowest place settles; if none is,
+-- T201 stops.
 abbrev pub stop_check : Step
 stop_check = check_is None then order (Stop T201)
 
 abbrev pub begin_next : Option ℕ → Step
 begin_next None = stop_check
-begin_next (Some tei) = lowest_is_not_due then begin_check tei
+begin_next (Some tei) = lowest_is_not_due then settle tei
 
 abbrev pub check_next : Step
 check_next c = begin_next (next_checked c.now) c

@@ -1,12 +1,13 @@
 -- Worked values: what the rows of annex B leave and tell, and in the profile where it differs.
-use Rattle.std.specs.Prelude.{◌≡◌, ℕ, List, [], ◌∷◌, true, false, Some, refl}
+use Rattle.std.specs.Prelude.{◌≡◌, ℕ, List, [], ◌∷◌, true, false, Some, None, refl}
 use Rattle.lapd_frame.specs.declared.notes.Note.TheVariants.{Doubled, Removed}
 use Rattle.lapd_frame.specs.declared.readings.Reading.{Reading}
 use Rattle.lapd_frame.specs.declared.readings.Reading.TheVariants.{Profile, AnnexB}
 use Rattle.lapd_frame.specs.declared.timers.Order.TheVariants.{Start, Stop}
 use Rattle.lapd_frame.specs.declared.timers.Timer.TheVariants.{T201}
+use Rattle.lapd_frame.specs.declared.refusals.Refusal.TheVariants.{CheckRunning}
 use Rattle.model_teis.specs.network.Messages.{IdentityAssigned, IdentityDenied, IdentityCheckRequest, IdentityRemove}
-use Rattle.model_teis.specs.network.Machine.{Management, TeiTold, First, Left, empty, nothing}
+use Rattle.model_teis.specs.network.Machine.{Management, TeiTold, First, Settling, Left, empty, nothing}
 use Rattle.model_teis.specs.network.Events.{Event, message, expiry, assign, remove, check, down, course, refusal, after, told}
 use Rattle.model_teis.specs.network.Laws.{Act, event, pull, after_acts}
 
@@ -47,27 +48,54 @@ asked : ((due AnnexB).waiting ≡ IdentityCheckRequest 66 ∷ IdentityCheckReque
 unfolding course refusal
 asked = (refl, refl, refl, refl, refl)
 
--- No terminal answers for TEI 66. Its removal is sent, and the check at the lowest place begins: one order.
+-- No terminal answers for TEI 66. Its removal is sent, and the check at the lowest place settles: one order, and no message.
 abbrev silent : Management
 silent = after_acts (pull ∷ pull ∷ pull ∷ event expiry ∷ pull ∷ event expiry ∷ []) (due AnnexB)
 
-next : (silent.waiting ≡ IdentityRemove 66 ∷ IdentityCheckRequest 65 ∷ []) × (silent.to_check ≡ false ∷ false ∷ true ∷ [])
-    × (silent.check ≡ Some (record { tei = 65; period = First; first = 0; second = 0 }))
-    × (told expiry (after expiry (due AnnexB)) ≡ record { notes = Removed 66 ∷ []; change = Some (Left 66 0); orders = Start T201 ∷ []; lost = 2; unserved = false })
-unfolding course refusal
-next = (refl, refl, refl, refl)
+abbrev settling : Management
+settling = record {
+  reading = AnnexB;
+  places = None ∷ Some 65 ∷ Some 64 ∷ [];
+  remembered = [];
+  check = Some (record { tei = 65; period = Settling; first = 0; second = 0 });
+  to_check = false ∷ false ∷ true ∷ [];
+  waiting = IdentityRemove 66 ∷ [];
+}
 
--- A TEI that leaves is forgotten, and all are if the line is down. If TEI 65 leaves, TEI 64 is checked, and no other after that.
-forgotten : ((after (remove 64) silent).to_check ≡ false ∷ false ∷ false ∷ []) × ((after down silent).to_check ≡ false ∷ false ∷ false ∷ [])
-    × ((told (remove 64) (after_acts (event (remove 65) ∷ pull ∷ []) silent)).orders ≡ Stop T201 ∷ [])
+next : (silent ≡ settling)
+    × (told expiry (after expiry (due AnnexB)) ≡ record { notes = Removed 66 ∷ []; change = Some (Left 66 0); orders = Start T201 ∷ []; lost = 1; unserved = false })
 unfolding course refusal
-forgotten = (refl, refl, refl)
+next = (refl, refl)
+
+-- While it settles a response counts nothing, though it is served; TEI 64 is asked for once more, and no other check is granted.
+settles : (after (says 5 (0x83 ∷ [])) settling ≡ settling) × (told (says 5 (0x83 ∷ [])) settling ≡ nothing) × (told (says 5 (0x80 ∷ 0x83 ∷ [])) settling ≡ nothing)
+    × (told (says 7 (0x83 ∷ [])) settling ≡ passed_over) × ((after (says 7 (0x81 ∷ [])) settling).waiting ≡ IdentityRemove 66 ∷ IdentityCheckRequest 64 ∷ [])
+    × (refusal (check 64) settling ≡ Some CheckRunning)
+unfolding course refusal
+settles = (refl, refl, refl, refl, refl, refl)
+
+-- Then it begins.
+abbrev begins : Management
+begins = after expiry settling
+
+is_begun : (begins ≡ record settling { check = Some (record { tei = 65; period = First; first = 0; second = 0 }); waiting = IdentityRemove 66 ∷ IdentityCheckRequest 65 ∷ [] })
+    × (told expiry settling ≡ record nothing { orders = Start T201 ∷ [] })
+unfolding course refusal
+is_begun = (refl, refl)
+
+-- A TEI that leaves is forgotten, and all are if the line is down. If TEI 65 leaves while it settles, TEI 64 settles, and no other
+-- after that.
+forgotten : ((after (remove 64) settling).to_check ≡ false ∷ false ∷ false ∷ []) × ((after down settling).to_check ≡ false ∷ false ∷ false ∷ [])
+    × ((after (remove 65) settling).check ≡ Some (record { tei = 64; period = Settling; first = 0; second = 0 }))
+    × ((told (remove 64) (after_acts (event (remove 65) ∷ pull ∷ []) settling)).orders ≡ Stop T201 ∷ [])
+unfolding course refusal
+forgotten = (refl, refl, refl, refl)
 
 -- Responses name TEIs 64 and 65 in one message; two of these come in one period. In one more, bit 1 is 1 before the last.
 abbrev answered : Management
-answered = after (says 5 (0x80 ∷ 0x83 ∷ [])) silent
+answered = after (says 5 (0x80 ∷ 0x83 ∷ [])) begins
 
 counts : (answered.check ≡ Some (record { tei = 65; period = First; first = 1; second = 0 }))
-    × ((told (says 5 (0x82 ∷ 0x81 ∷ [])) answered).notes ≡ Doubled 65 ∷ []) × (told (says 5 (0x81 ∷ 0x83 ∷ [])) silent ≡ passed_over)
+    × ((told (says 5 (0x82 ∷ 0x81 ∷ [])) answered).notes ≡ Doubled 65 ∷ []) × (told (says 5 (0x81 ∷ 0x83 ∷ [])) begins ≡ passed_over)
 unfolding course refusal
 counts = (refl, refl, refl)

@@ -13,11 +13,14 @@ pub struct Check {
     pub second: u8,
 }
 
-/// A check asks twice, and awaits responses for one run of T201 each time.
+/// A check asks twice, and awaits responses for one run of T201 each time. One that was due (annex B) settles for one run
+/// before that.
 #[derive(Clone, Copy, PartialEq, Eq, Debug)]
 pub enum Period {
     /// The first run of T201.
     First,
     /// The second, after which the check ends.
     Second,
+    /// The run before the first: the terminals have not been asked yet, and no response counts.
+    Settling,
 }

@@ -5,9 +5,9 @@ ghost use Rattle.model_teis.specs.network.Laws.{IsSoundThroughout, ChangesAreTol
 /// TEI management is sound from the empty table on, after any events and pulls whose requests name TEIs of at most 126, or
 /// disown one of at most 127. No TEI and no Ri stands twice, and each TEI is at most 126. At most four assignments are
 /// remembered, each of a TEI that is on the line, and none by annex B. At most four messages wait, each with an Ai of at most
-/// 127. A check is of a TEI that is on the line, and has at most one response in each period. A check is due only by annex B,
-/// only while another runs, and only of another TEI on the line. This is a law about the definitions in `specs/`; the call does
-/// nothing.
+/// 127. A check is of a TEI that is on the line, and has at most one response in each period; it settles only by annex B, and
+/// has none then. A check is due only by annex B, only while another runs, and only of another TEI on the line. This is a law
+/// about the definitions in `specs/`; the call does nothing.
 pub fn sound_throughout()
     ensures { IsSoundThroughout }
 {}
@@ -30,9 +30,9 @@ pub fn lowest_is_assigned()
     ensures one { OneIsFree }
 {}
 
-/// An event lets at most one message more wait and loses at most one, if a check that is due counts as the message with which
-/// it begins. By annex B a message that is heard lets two wait at most, and two may be lost. A pull lets one fewer wait, or
-/// finds none. A law about the definitions in `specs/`; the call does nothing.
+/// An event lets at most one message more wait, if a check that is due counts as the message with which it begins, and loses
+/// at most one. By annex B a message that is heard lets two wait at most. A pull lets one fewer wait, or finds none. A law about
+/// the definitions in `specs/`; the call does nothing.
 #[tactic(auto, using(crate::proofs::OfNetwork::LawLemmas::few_more_wait, crate::proofs::OfNetwork::LawLemmas::few_are_lost))]
 pub fn few_more_wait()
     ensures more { FewMoreWait }

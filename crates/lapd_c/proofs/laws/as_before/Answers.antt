@@ -5,7 +5,7 @@ use Rattle.lapd_c.proofs.laws.as_before.Goals as goal
 pub returns : goal.returns
 returns c = record {
   start = λ kind config none begun s. s.timed refl;
-  call = λ cards line result old new before report it untimed. it.timed ∙ untimed;
+  call = λ cards line result names old new before report it untimed. it.timed ∙ untimed;
   moment = λ result old new before report it untimed. it.timed ∙ untimed;
   lengths = λ result old new it untimed. it.timed ∙ untimed;
   expiry = λ line result old new timer before report untimed it. record {
@@ -19,6 +19,8 @@ returns c = record {
       unwritten = it.call.unwritten;
       reopened = it.call.reopened;
       expired = it.call.expired;
+      given_up = it.call.given_up;
+      tail = it.call.tail;
     };
     wrong = λ m s w. it.wrong m (s, untimed) w;
     not_ok = λ m s w. it.not_ok m (s, untimed) w;

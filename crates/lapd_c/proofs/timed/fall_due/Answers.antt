@@ -1,6 +1,6 @@
 -- Hand-written answers for `fall_due`.
 use Rattle.lapd_c.proofs.Vocabulary.{◌<◌, ◌≤◌, false≢true, subst, sym, ap, refl, ◌∙◌, arith, none-some, ShowsAnswer, Config, card_in}
-use Rattle.std.proofs.Common.{inl, inr, option_map}
+use Rattle.std.proofs.Common.{inl, inr, None, option_map}
 use Rattle.std.specs.Prelude.{◌⊎◌, ◌^◌}
 use Rattle.model_card.specs.Counted.{moment_counted, moment_of}
 use Rattle.model_timed.specs.Changes.{noted}
@@ -16,6 +16,7 @@ use Rattle.lapd_c.specs.declared.plain.reports.PlainReport.{PlainReport}
 use Rattle.lapd_c.specs.Kept.{ChangesStandIn, TimersStandIn, seen_by, without_orders}
 use Rattle.lapd_c.specs.FallsDue.{expires}
 use Rattle.lapd_c.specs.Reopened.{TellsReopened}
+use Rattle.lapd_c.specs.Reports.{given_up_tei}
 use Rattle.lapd_c.specs.Timers.{plain_timer}
 use Rattle.lapd_c.proofs.Reopening.{answered_still, reopened_still, settled_answered, still_stands}
 use Rattle.lapd_c.proofs.Served.{frames_stand, if_fell, marks_there, none_due, still_within, there, timers_there}
@@ -115,6 +116,9 @@ returns-clause-due c = λ m clock s stood later before.
           (answered_still c.settle.new.report (plain_timer timer) (without_orders (answer e m))
           (subst (λ own. ShowsAnswer c.settle.new.report (seen_by own (answer e m))) (f.timed ∙ w.timed ∙ sym c.is_timed.ensures ∙ c.if-not-is_timed.false)
           (settled_answered _ c.settle.new.report c.show.new.self (answer e m) c.settle.ensures.rest (subst (ShowsAnswer c.show.new.self) (f.fell.called.answers m mid) (c.show.ensures (omega arith))))));
+      given_up = ap (λ (r : PlainReport). r.given_up_tei) c.show_expired.ensures ∙ c.settle.ensures.settles.given_up
+          ∙ sym (ap (λ (r : PlainReport). given_up_tei None r) c.show_expired.ensures);
+      tail = ap (λ (r : PlainReport). r.reserved) c.show_expired.ensures ∙ c.settle.ensures.settles.tail;
       stands = still_stands (after e m) (ap (λ (t : TimedCard). t.card) same) led;
       timers = fell.timers;
       noted = λ marks stood_marks. fell.noted (noted c.args.now (card_in m) marks) (gone.1 marks (marks_there c.in-Some.ensures.card (card_in m) marks stood_marks));

@@ -9,6 +9,6 @@ invariant_of-self c =
     let m = management_of c.self.inside in
     let own = c.args.own in
     let runs : m.check ≡ Some own = ap (λ m. m.check) c.self.view_is ∙ c.requires in
-    let checked : IsSoundCheck m.places own = subst (λ check. IfSome check (IsSoundCheck m.places)) runs c.self.invariant.checked in
+    let checked : IsSoundCheck m.reading m.places own = subst (λ check. IfSome check (IsSoundCheck m.reading m.places)) runs c.self.invariant.checked in
     sound_sent m (IdentityCheckRequest own.tei) _ _ c.self.invariant (on_low m m own.tei refl c.self.invariant checked.on_line)
-    (check-again m.places own checked) (dues-same m.places m.check m.to_check own (record own { period = Second }) runs refl c.self.invariant.due) c.send-lost.ensures.waits
+    (check-again m.reading m.places own checked) (dues-same m.places m.check m.to_check own (record own { period = Second }) runs refl c.self.invariant.due) c.send-lost.ensures.waits

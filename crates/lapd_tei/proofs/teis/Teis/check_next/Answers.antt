@@ -20,4 +20,4 @@ returns-clause-other c =
     let m = management_of c.self.inside in
     let runs : is_checked c.args.tei m.check ≡ true = subst (λ (n : Management). is_checked c.args.tei n.check ≡ true) (sym c.self.view_is) c.requires.runs in
     let may = subst (λ o. MayBeDue o m.check) (sym c.tei_at.ensures ∙ c.in-Some-tei_at.is) (due-there m.places m.check m.to_check c.in-Some.place (sym c.lowest.ensures.place ∙ c.in-Some.is) c.self.invariant.due) in
-    ap (λ (d : Course). is_checked c.args.tei d.now.check) c.begin_check.ensures.led ∙ other-next m.check c.args.tei c.in-Some-tei_at.next runs may
+    ap (λ (d : Course). is_checked c.args.tei d.now.check) c.settle.ensures.led ∙ other-next m.check c.args.tei c.in-Some-tei_at.next runs may

@@ -16,7 +16,7 @@ invariant_of-self c =
       memory =
           subst (λ places. IsSoundMemory places c.forget.new.self) (sym c.take-place.ensures.freed)
           (subst (IsSoundMemory _) (sym c.forget.ensures) (memory-freed _ _ c.args.tei sound.memory));
-      checked = subst (λ places. IfSome c.self.inside.check (IsSoundCheck places)) (sym c.take-place.ensures.freed) (check-freed _ _ c.args.tei other sound.checked);
+      checked = subst (λ places. IfSome c.self.inside.check (IsSoundCheck c.self.inside.reading places)) (sym c.take-place.ensures.freed) (check-freed _ _ _ c.args.tei other sound.checked);
       due = subst (λ places. AreSoundChecks places c.self.inside.check c.put.new.self) (sym c.take-place.ensures.freed)
           (subst (AreSoundChecks _ c.self.inside.check) (sym cleared) (dues-freed _ _ _ c.args.tei sound.due));
       queue = sound.queue;

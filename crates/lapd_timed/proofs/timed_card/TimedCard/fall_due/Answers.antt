@@ -49,7 +49,7 @@ returns-clause-after c =
     let be = c.note.ensures.card ∙ c.carry_out.ensures.card in
     let are_noted = subst (λ k. AreNoted (frames_of k) line c.tei_of_timer.result c.carry_out.new.self.timers c.note.new.self.timers) c.carry_out.ensures.card c.note.ensures.noted in
     let carried = carried-too _ _ _ _ _ _ _ _ c.carry_out.ensures.carried are_noted in
-    let keeps = subst (λ n. (d : Config) (l : Line) → n ≢ 127 → KeepsOthers n l (lines.after d (expiry c.in-Some-due.timer) l)) (sym c.tei_of_timer.ensures) (expiry-keeps c.in-Some-due.timer) in
+    let keeps = subst (λ n. (d : Config) (l : Line) → KeepsOthers n d l (lines.after d (expiry c.in-Some-due.timer) l)) (sym c.tei_of_timer.ensures) (expiry-keeps c.in-Some-due.timer) in
     let still = λ (m : Card) (marks : Marks) (stood : ChangesStandIn c.args.self.now.timers m marks). still-marked c.in-Some.is c.due.new.self m marks c.in-Some-due.ensures.lines c.in-Some-due.ensures.terminals c.in-Some-due.ensures.changes stood in
     let says = λ (m : Machine) (on : AnyStands c.args.self.now.card m). c.orders.ensures ∙ ap orders_in (c.expire.ensures.called.answers m on) in
     record {

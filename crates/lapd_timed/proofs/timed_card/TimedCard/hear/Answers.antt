@@ -26,8 +26,8 @@ returns-in-Some c =
           c.requires.within c.orders.result.now (carried-too _ _ _ _ _ _ _ _ c.carry_out.ensures.carried are_noted)
           (λ is m k stood. are_noted.stand m k (subst (λ ts. TimersStandIn ts m k) (sym (c.carry_out.ensures.none is)) stood))
           (λ m s. c.orders.ensures ∙ sym (orders-told e c.in-Octets.card c.hear.new.self c.args.line c.in-Some.report c.in-Some.ensures.called.leads within m s)) c.carry_out.new.self.timers c.carry_out.ensures.still c.tei_of_heard-tei.result are_noted
-          (λ m on f meant own. heard-touches c.args.line c.args.octet m f (ports-there c.in-Octets.card m c.args.line on within) meant c.ended.result c.tei_of_heard-tei.result
-          (c.ended.ensures (after e m) (c.in-Some.ensures.called.leads.stands m on)) c.tei_of_heard-tei.ensures own));
+          (λ m on f meant. heard-touches c.args.line c.args.octet m f (ports-there c.in-Octets.card m c.args.line on within) meant c.ended.result c.tei_of_heard-tei.result
+          (c.ended.ensures (after e m) (c.in-Some.ensures.called.leads.stands m on)) c.tei_of_heard-tei.ensures));
     }
 
 pub returns-in-None : goal.returns-in-None

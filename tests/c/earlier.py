@@ -1,0 +1,134 @@
+"""What a program that was compiled with an earlier header needs of a later one: the rule at the top of lapd.h, for tests/c/declared
+and tests/c/run. tests/c/versions keeps the header of each version, and a table of what stands in it:
+
+    struct NAME OCTETS ALIGNMENT        field STRUCT NAME TYPE PLACE [COUNT]
+    number NAME VALUE                   call RESULT NAME PARAMETERS
+"""
+import os
+import re
+import sys
+from typing import Dict, List, NamedTuple, Set
+
+HERE = os.path.dirname(os.path.abspath(__file__))
+KEPT = f"{HERE}/versions"
+sys.path.insert(0, os.path.join(os.path.dirname(os.path.dirname(HERE)), "tools"))
+from vithrynel.header import Field, Struct, bare, functions_in, numbers_in, octets_of, structs_in
+
+# Numbers that may grow with a new minor version: how many counters there are.
+GROWING = {"LAPD_COUNTERS"}
+# How a field is called that keeps room for a later version.
+RESERVED = "reserved"
+
+
+class Shape(NamedTuple):
+    """What a program that was compiled has of a header."""
+    structs: Dict[str, Struct]
+    numbers: Dict[str, int]
+    calls: Dict[str, str]
+
+
+def shape(header: str) -> Shape:
+    words = bare(header)
+    calls = {it.name: " ".join([it.result, it.name, *(f"{'const ' * one.is_const}{one.kind}{'*' * one.is_pointer}" for one in it.parameters)])
+             for it in functions_in(words)}
+    return Shape(structs_in(words), numbers_in(words), calls)
+
+
+def table(of: Shape) -> List[str]:
+    rows = []
+    for it in of.structs.values():
+        rows.append(f"struct {it.name} {it.octets} {it.alignment}")
+        rows += [f"field {it.name} {one.name} {one.kind.replace(' ', '')} {one.at}{'' if one.count is None else f' {one.count}'}" for one in it.fields]
+    return rows + [f"number {name} {value}" for name, value in of.numbers.items()] + [f"call {it}" for it in of.calls.values()]
+
+
+def versions() -> List[str]:
+    """The names of the headers that are kept."""
+    return sorted(it[:-2] for it in os.listdir(KEPT) if it.endswith(".h"))
+
+
+def kept(name: str) -> str:
+    with open(f"{KEPT}/{name}", encoding="utf-8") as file:
+        return file.read()
+
+
+def places(it: Field, known: Dict[str, Struct]) -> Set[int]:
+    """The octets of its struct in which a field lies."""
+    return set(range(it.at, it.at + octets_of(it.kind, known) * (1 if it.count is None else it.count)))
+
+
+def broken_struct(was: Struct, now: Struct, before: Shape, after: Shape) -> List[str]:
+    free: Set[int] = set().union(*(places(it, before.structs) for it in was.fields if it.name == RESERVED))
+    own, wrong = {it.name: it for it in now.fields}, []
+    if (was.octets, was.alignment) != (now.octets, now.alignment):
+        wrong.append(f"{was.name} has {now.octets} octets, not {was.octets}")
+    for it in was.fields:
+        one = own.get(it.name)
+        if it.name == RESERVED:
+            continue
+        if one is None or (one.kind, one.at) != (it.kind, it.at):
+            wrong.append(f"{was.name}.{it.name} is gone, has moved, or has another type")
+        elif not places(one, after.structs) <= places(it, before.structs) | free or (one.count or 0) < (it.count or 0):
+            wrong.append(f"{was.name}.{it.name} has another length")
+    known = {it.name for it in was.fields}
+    return wrong + [f"{was.name}.{it.name} takes no reserved place" for it in now.fields
+                    if it.name not in known and it.name != RESERVED and not places(it, after.structs) <= free]
+
+
+def broken(before: Shape, after: Shape) -> List[str]:
+    """What of the rule a later header breaks: nothing if a program of before runs over its library."""
+    wrong = [f"struct {name} is gone" for name in before.structs if name not in after.structs]
+    for name, was in before.structs.items():
+        wrong += broken_struct(was, after.structs[name], before, after) if name in after.structs else []
+    for name, value in before.numbers.items():
+        now = after.numbers.get(name)
+        if now != value and not (name in GROWING and now is not None and now > value):
+            wrong.append(f"{name} is {now}, not {value}")
+    return wrong + [f"{name} is {after.calls.get(name)}, not {it}" for name, it in before.calls.items() if after.calls.get(name) != it]
+
+
+# ---- Trials: edits of a copy of the header ---------------------------------------------------------------------------------
+
+def edited(header: str, *pairs: str) -> str:
+    """A header with each text, which stands there once, replaced by the one after it."""
+    for old, new in zip(pairs[::2], pairs[1::2]):
+        if len(re.findall(old, header)) != 1:
+            raise ValueError(f"an edit does not fit the header: {old}")
+        header = re.sub(old, new, header)
+    return header
+
+
+def taken(header: str, before: str, field: str) -> str:
+    """A header with a field in the first reserved place of a struct, behind the text that stands before these places."""
+    found = re.search(rf"{before}[^\n]*\n    (uint\d+_t) reserved\[(\d+)\]", header)
+    if not found:
+        raise ValueError(f"an edit does not fit the header: {before}")
+    rest = f"    {found[1]} reserved[{int(found[2]) - 1}]"
+    return header[:found.start(1) - 4] + (f"    {found[1]} {field};\n" if field else "") + rest + header[found.end():]
+
+
+def grown(header: str) -> str:
+    """A copy with a field of the configuration, a counter, a number of a report, and a status: what a minor version may bring."""
+    counters = numbers_in(bare(header))["LAPD_COUNTERS"]
+    header = taken(taken(header, "uint16_t reading;", "patience"), "uint8_t given_up_tei;", "patient")
+    header = header.replace("LAPD_ANNEX_B, { 0 } }", "LAPD_ANNEX_B, 0, { 0 } }")
+    header = taken(header, r"values\[LAPD_COUNTERS\];", "")
+    return edited(header, f"LAPD_COUNTERS = {counters}\n", f"LAPD_HEARD_PATIENCE = {counters}, LAPD_COUNTERS = {counters + 1}\n",
+                  "LAPD_BAD_RESERVED = 47,", "LAPD_BAD_RESERVED = 47, LAPD_IMPATIENT = 99,")
+
+
+def trials(header: str) -> Dict[str, str]:
+    """Copies that break the rule, each in one way, by what this is."""
+    return {
+        "a field that moves": edited(header, r"    uint16_t lines; [^\n]*\n", "", r"(    uint16_t terminals; [^\n]*\n)", r"\1    uint16_t lines;\n"),
+        "a field before others": edited(header, r"(    uint8_t service; /\* LAPD_CALL or LAPD_PACKET \*/\n    uint8_t tei;     /\* 0 to 126 \*/)",
+                                        r"    uint8_t line;\n\1"),
+        "a struct that grows": edited(header, r"uint32_t reserved\[4\];", "uint32_t patience;\n    uint32_t reserved[4];"),
+        "a field of another type": edited(header, r"    uint16_t line;  ", "    uint8_t line;  "),
+        "a field in a place that was not reserved": edited(header, r"(    uint8_t reopened_tei; [^\n]*\n)", r"\1    uint8_t patient;\n"),
+        "a field that goes": edited(header, r"    uint8_t va; [^\n]*\n    uint8_t reserved\[10\]", "    uint8_t reserved[11]"),
+        "a number that changes": edited(header, r"LAPD_NO_FRAME = 28,", "LAPD_NO_FRAME = 29,"),
+        "a counter that moves": edited(header, r"LAPD_LOST = 64,", "LAPD_LOST = 65,"),
+        "a call with another parameter": edited(header, r"lapd_lines\(lapd_card \*card, uint32_t \*lines\);", "lapd_lines(lapd_card *card, uint16_t *lines);"),
+        "a call that goes": edited(header, r"LAPD_STATUS lapd_stored\([^\n]*\n", ""),
+    }

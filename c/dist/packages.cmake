@@ -65,6 +65,10 @@ liblapd-static.a  liblapd.a, by a name by which a linker takes no shared library
 ")
 # Debian's flags put tests into calls that write to memory whose size a compiler knows: the simulator has none.
 file(WRITE "${lapd_debian}/lintian/lapdsim" "lapdsim: hardening-no-fortify-functions [usr/bin/lapdsim]\n")
+# What builds an example is no documentation, though its name ends as a text's.
+file(WRITE "${lapd_debian}/lintian/liblapd-dev"
+    "liblapd-dev: package-contains-documentation-outside-usr-share-doc [usr/share/lapd/examples/board/CMakeLists.txt]\n")
+install(FILES "${lapd_debian}/lintian/liblapd-dev" DESTINATION "${CMAKE_INSTALL_DATADIR}/lintian/overrides" COMPONENT development EXCLUDE_FROM_ALL)
 if(LAPD_SIMULATOR)
     install(FILES "${lapd_debian}/lintian/lapdsim" DESTINATION "${CMAKE_INSTALL_DATADIR}/lintian/overrides" COMPONENT simulator EXCLUDE_FROM_ALL)
 endif()

@@ -14,6 +14,7 @@ import { NoMemory, Program } from "../../web/program.mjs";
 
 const PAGES = 40; // 2.6 MB, less than the largest card takes
 const MEMORY = 5; // the section of a module that says how large its memory is
+const CONFIG = 32; // places of 16 bits in a configuration, the reserved ones among them
 const CARDS = 32;
 const MORE = 2; // times as many steps as the first start takes another may take
 const LARGEST = "card 64 8 127 127 16 16 8192 260 10 127\n";
@@ -66,8 +67,8 @@ function inPage(text) {
 /** The library, with places for a configuration and for handles. */
 function library(octets, imports = {}) {
   const lapd = new WebAssembly.Instance(new WebAssembly.Module(octets), imports).exports;
-  const config = lapd.module_take(32n);
-  const write = (fields) => new Uint16Array(lapd.memory.buffer, Number(config), fields.length).set(fields);
+  const config = lapd.module_take(BigInt(2 * CONFIG));
+  const write = (fields) => new Uint16Array(lapd.memory.buffer, Number(config), CONFIG).fill(0).set(fields);
   const handle = () => lapd.module_take(16n);
   return { lapd, config, write, handle };
 }

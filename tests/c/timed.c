@@ -185,7 +185,7 @@ static void exchange(uint32_t line, const uint8_t *in, size_t length) {
     uint8_t out[MOST_RUN] = {0}, other[MOST_RUN] = {0};
     bool at = has_moment();
     for (size_t steps = 0, reached = 0; steps < 2 * length;) {
-        lapd_report own = before, told = before, nothing = {0};
+        lapd_report own = before, told = before, nothing = {.given_up_tei = 255};
         size_t first = steps;
         wants((at ? lapd_exchange_at(&timed, now, line, in, length, out, length, &steps, &own)
                   : lapd_exchange(&timed, line, in, length, out, length, &steps, &own)) == LAPD_OK, "no exchange");

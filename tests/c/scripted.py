@@ -9,12 +9,13 @@ from compiled import ROOT
 sys.path[:0] = [f"{ROOT}/tools", f"{ROOT}/bindings/python"]
 import lapd
 from vithrynel.bits import Deframer, Frame, Terminal
-from vithrynel.image_words import CARD_LINE
+from vithrynel.header import numbers as numbers_of_header
+from vithrynel.table import FIELDS, READING, SIDE, card_line, least_numbers, numbers_of, taken_apart
 
 MOST_LINE, MOST_NUMBER, MOST_TEI, MOST_WAIT, MOST_PULLS = 4096, 65535, 255, 3_600_000, 4096
 LATEST = (1 << 63) - 1
 # From which place on counters are those of messages.
-MESSAGES = 65
+MESSAGES = numbers_of_header()["LAPD_HEARD_REQUEST"]
 OCTETS = re.compile(rb"-|(?:[0-9A-Fa-f]{2})*")
 CAUSES = {b"abort": lapd.Cause.ABORT, b"ragged": lapd.Cause.RAGGED, b"short": lapd.Cause.SHORT, b"fcs": lapd.Cause.FCS}
 # Words that are followed by octets, and by how many numbers before; and the range of the last number.
@@ -26,8 +27,6 @@ NUMBERS: Dict[bytes, Tuple[int, int, int]] = {
     **{it: (2, 0, MOST_TEI) for it in (b"assign", b"remove", b"check", b"disown", b"verify", b"establish", b"release", b"busy",
                                        b"ready", b"deactivate", b"data", b"unit", b"establish16", b"release16", b"busy16", b"ready16",
                                        b"deactivate16", b"data16", b"unit16")}}
-SIDES = {b"": lapd.Side.NETWORK, b"user": lapd.Side.USER, b"terminal": lapd.Side.TERMINAL}
-READINGS = {b"": lapd.Reading.PROFILE, b"annex-b": lapd.Reading.ANNEX_B}
 WITH_OCTETS = {b"rx", b"in", b"data", b"unit", b"data16", b"unit16"}
 
 
@@ -49,7 +48,7 @@ class Line(NamedTuple):
     numbers: List[int]
     octets: bytes = b""
     last: bytes = b""
-    reading: lapd.Reading = lapd.Reading.PROFILE
+    config: Dict[str, int] = {}
 
 
 def number(word: bytes, least: int = 0, most: int = MOST_NUMBER) -> int:
@@ -64,24 +63,24 @@ def counted(words: List[bytes], *counts: int) -> List[bytes]:
     return words
 
 
-def side_of(words: List[bytes]) -> Tuple[List[bytes], bytes, bytes]:
-    """The numbers of a card line, the side that stands after them, and a terminal's seed."""
-    if len(words) in (10, 11) and words[-1] == b"user":
-        return words[:-1], b"user", b"0"
-    if len(words) == 11 and words[-2] == b"user" or len(words) == 12 and words[-2] == b"user" != words[-1]:
-        return words[:-2], b"terminal", words[-1]
-    return words, b"", b"0"
+def config_of(words: List[bytes]) -> Dict[str, int]:
+    """The fields of a configuration, by a card line. What is in no range is the largest, as 0 would mean what is usual."""
+    plain, ended = taken_apart([it.decode("latin-1") for it in words])
+    for it in [*counted(plain, least_numbers(), len(card_line())), *sum(ended.values(), [])]:
+        number(it.encode("latin-1"))
+    fields = numbers_of(plain, ended)
+    fields.update({it.name: MOST_NUMBER for it in FIELDS if it.after and not fields[it.name]})
+    seed = ended.get(SIDE)
+    side = lapd.Side.NETWORK if seed is None else lapd.Side.TERMINAL if seed else lapd.Side.USER
+    reading = lapd.Reading.ANNEX_B if READING in ended else lapd.Reading.PROFILE
+    return {**fields, "side": side, "seed": int(seed[0]) if seed else 0, "reading": reading}
 
 
 def read(text: bytes) -> Line:
     """A line of a script, before a card is asked."""
     word, *words = text.split(b" ")
     if word in (b"card", b"frames"):
-        *words, reading = words if words[-1:] == [b"annex-b"] else [*words, b""]
-        *words, sapi = [*words[:-2], words[-1]] if words[-2:-1] == [b"sapi"] else [*words, b"16"]
-        words, last, seed = side_of(words)
-        numbers = [number(it) for it in [*counted(words, 9, 10), seed, sapi]]
-        return Line(word.decode(), numbers, last=last, reading=READINGS[reading])
+        return Line(word.decode(), [], config=config_of(words))
     if word == b"timers":
         return Line("timers", [number(it, 1, MOST_WAIT) for it in counted(words, 3, 4)])
     if word == b"failed":
@@ -120,11 +119,7 @@ class Station:
     def start(self, line: Line) -> None:
         if self.card:
             raise Faulty("second card")
-        *numbers_read, seed, sapi = line.numbers
-        numbers = dict(zip(CARD_LINE, numbers_read))
-        config = lapd.Config(**{"k16": numbers["k"], **numbers}, side=SIDES[line.last], seed=seed,
-                             sapi=sapi or MOST_NUMBER,  # 0 would mean 16
-                             reading=line.reading)
+        config = lapd.Config(**line.config)
         try:
             self.card = KINDS[line.word, self.is_timed](config)
         except lapd.Error:

@@ -2,7 +2,7 @@
 from typing import Callable, List, Optional, Tuple, TypeVar
 
 from vithrynel.clock_image import KIND, ClockImage, Running
-from vithrynel.image import FREE, MAGIC, OF_AN_OCTET, VERSION, Card, Clock, Config, Line, Link, Message
+from vithrynel.image import FREE, MAGIC, NUMBERS, VERSION, Card, Clock, Config, Line, Link, Message
 
 T = TypeVar("T")
 
@@ -28,9 +28,8 @@ def message_spelt(it: Message) -> bytes:
 
 
 def config_spelt(c: Config) -> bytes:
-    numbers = bytes(getattr(c, it) for it in OF_AN_OCTET)
-    seed = b"" if c.seed is None else spelt(2, c.seed)
-    return bits_spelt((c.user, c.seed is not None, c.annex_b)) + numbers + spelt(2, c.slots) + spelt(2, c.n201) + seed
+    numbers = b"".join(spelt(it.octets, c.numbers[it.name]) for it in NUMBERS)
+    return bits_spelt((c.user, c.seed is not None, c.annex_b)) + numbers + (b"" if c.seed is None else spelt(2, c.seed))
 
 
 def teis_spelt(config: Config, line: Line) -> bytes:

@@ -1,28 +1,21 @@
-"""Reads the image of a card, as docs/FORMAT.md ("Images") has it. It is written from that page alone, and knows nothing of the
-program: `read` makes a `Card` of octets, or raises `BadImage`, which says at which octet it shows that they are no image."""
+"""Reads the image of a card, as docs/FORMAT.md ("Images") has it. It is written from that page, with names and ranges of table.py,
+and knows nothing of the program: `read` makes a `Card` of octets, or raises `BadImage`, which says at which octet it shows that they
+are no image."""
 from dataclasses import dataclass, field
 from typing import Callable, Dict, List, Optional, Tuple, TypeVar
 
 from .program import Fault
+from .table import FIELDS, counted, counters, in_order
 
 MAGIC, VERSION, FREE, GROUP = b"LAPD", 1, 255, 127
 LONGEST = 3600000  # that a timer runs, in milliseconds
-KINDS = "i rr rnr rej sabme disc ui ua dm frmr xid undefined".split()
-CAUSES = "abort ragged short fcs extension sapi tei unserved".split()
-NOTES = ("establish-indication establish-confirm release-indication release-confirm data unit xid assigned removed doubled denied "
-         "unassigned remove-all").split()
-MESSAGES = "request assigned denied check-request check-response remove verify".split()
-COUNTERS = [f"{way}-{it}" for way in ("heard", "begun") for it in KINDS] + ["heard-octets", "begun-octets", "heard-polls", "begun-polls"] + [
-    "heard-overlong", *(f"dropped-{it}" for it in CAUSES), *(f"errors-{it}" for it in "abcdefghijklno"), *(f"told-{it}" for it in NOTES), "lost"]
-COUNTED = COUNTERS + [f"{way}-{it}" for way in ("heard", "begun") for it in MESSAGES]
+COUNTED, COUNTED_OF_LINK = counters(), counted()
 FLAGS = "peer-busy own-busy rejecting pending asked t200 t203".split()
 PEER_BUSY, OWN_BUSY, REJECTING, PENDING, ASKED, T200, T203 = range(7)
 # What may wait of frames with a control field of one octet, without P/F: a command, a response, or both.
 UNNUMBERED = {0x03: (True,), 0x43: (True,), 0x6F: (True,), 0x0F: (False,), 0x63: (False,), 0xAF: (True, False)}
-# The numbers of a configuration that take an octet each, in order: what the page calls them, and their least and greatest.
-OF_AN_OCTET = {"lines": ("LINES", 1, 64), "terminals": ("TERMINALS", 1, 8), "k": ("K", 1, 127), "k16": ("K16", 1, 127),
-               "queue": ("QUEUE", 1, 127), "unit_queue": ("UNIT_QUEUE", 1, 16), "control": ("CONTROL", 2, 16), "n200": ("N200", 0, 10),
-               "sapi": ("the SAPI", 1, 62)}
+# The numbers of a configuration, in order.
+NUMBERS = in_order(it.name for it in FIELDS)
 T = TypeVar("T")
 
 
@@ -35,20 +28,16 @@ class BadImage(Fault):
 
 @dataclass
 class Config:
-    lines: int
-    terminals: int
-    k: int
-    k16: int
-    queue: int
-    unit_queue: int
-    control: int
-    n200: int
-    sapi: int
-    slots: int
-    n201: int
+    """Its numbers have the names of their fields."""
+    numbers: Dict[str, int]
     user: bool
     seed: Optional[int]
     annex_b: bool
+
+    def __getattr__(self, name: str) -> int:
+        if name not in self.__dict__.get("numbers", ()):
+            raise AttributeError(name)
+        return self.numbers[name]
 
     @property
     def is_terminal(self) -> bool:
@@ -181,10 +170,9 @@ def read_version(r: Reader) -> None:
 def config_of(r: Reader) -> Config:
     user, seeded, annex_b = r.bits(3)
     numbers: Dict[str, int] = {}
-    for field_name, (said, least, most) in OF_AN_OCTET.items():
-        numbers[field_name] = r.number(1, max(numbers["k"], numbers["k16"]) if field_name == "queue" else least, most, said)
-    slots, n201 = r.number(2, 1, 8192, "SLOTS"), r.number(2, 8, 260, "N201")
-    return Config(**numbers, slots=slots, n201=n201, user=user, seed=r.number(2) if seeded else None, annex_b=annex_b)
+    for it in NUMBERS:
+        numbers[it.name] = r.number(it.octets, max(it.least, *(numbers[one] for one in it.at_least), 0), it.most, it.name.upper())
+    return Config(numbers, user, r.number(2) if seeded else None, annex_b)
 
 
 def line_of(r: Reader, config: Config) -> Line:
@@ -257,7 +245,7 @@ def teis_of_others(r: Reader, config: Config, line: Line) -> None:
 def link_of(r: Reader, config: Config, window: int) -> Link:
     state, flags = r.number(1, 4, 8, "a state"), r.bits(len(FLAGS))
     rc, va, outstanding, vr = r.number(1, 0, config.n200, "RC"), r.number(1, 0, 127, "V(A)"), r.number(1, 0, window, "V(S) - V(A)"), r.number(1, 0, 127, "V(R)")
-    again, counted = r.number(1), [r.number(2) for _ in range(5)]
+    again, counted = r.number(1), [r.number(2) for _ in COUNTED_OF_LINK]
     contents = r.list(config.queue, lambda: r.contents(config.n201), "contents")
     link = Link(state, flags, rc, va, outstanding, vr, again, counted, contents, r.list(config.control, lambda: control_of(r), "control frames"))
     r.need(outstanding <= len(contents), "contents are missing")

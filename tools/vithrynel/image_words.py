@@ -3,12 +3,14 @@ from typing import Iterator, List, Optional
 
 from .clock_image import OF_LINKS, TIMERS, ClockImage, is_of_clock, read_clock
 from .frames import digits
-from .image import COUNTED, COUNTERS, FLAGS, MESSAGES, VERSION, Card, Config, Line, Link, Message, read
+from .header import numbers
+from .image import COUNTED, COUNTED_OF_LINK, FLAGS, VERSION, Card, Config, Line, Link, Message, read
+from .table import FIELDS, READING, SIDE, card_line
 
 STATES = {4: "tei-assigned", 5: "awaiting-establishment", 6: "awaiting-release", 7: "established", 8: "timer-recovery"}
-# The numbers of a card line, in order; the last may be left out, and is k then.
-CARD_LINE = "lines terminals k queue unit_queue control slots n201 n200 k16".split()
-COUNTED_OF_LINK = "sent-again t200-expired rejects-sent rejects-received established".split()
+# From which counter on they are those of messages, and the types of these.
+FIRST_MESSAGE = numbers()["LAPD_HEARD_REQUEST"]
+MESSAGES = [it[len("heard-"):] for it in COUNTED[FIRST_MESSAGE:] if it.startswith("heard-")]
 
 
 def of_service(word: str, packet: bool, tei: Optional[int]) -> str:
@@ -24,9 +26,10 @@ def head(card: Card) -> Iterator[str]:
     """The version and the kind, and the card line."""
     yield f"image version {VERSION} of {'octets' if card.of_octets else 'frames'}{' with timers' * (card.clock is not None)}"
     c = card.config
-    numbers = [getattr(c, it) for it in CARD_LINE]
-    side = ["user", *[str(c.seed)] * (c.seed is not None)] if c.user else []
-    yield " ".join(["card" if card.of_octets else "frames", *map(str, numbers), *side, "sapi", str(c.sapi), *["annex-b"] * c.annex_b])
+    side = [SIDE, *[c.seed] * (c.seed is not None)] if c.user else []
+    more = [word for it in FIELDS if it.after for word in (it.after, c.numbers[it.name])]
+    words = ["card" if card.of_octets else "frames", *(c.numbers[it.name] for it in card_line()), *side, *more, *[READING] * c.annex_b]
+    yield " ".join(map(str, words))
 
 
 def message(it: Message) -> str:
@@ -57,7 +60,7 @@ def link(number: int, it: Link, places: List[Optional[int]]) -> Iterator[str]:
     flags = [name for name, is_set in zip(FLAGS, it.flags) if is_set]
     yield " ".join([of_link("link", number, places), f"state {it.state} {STATES[it.state]}", numbers, *flags])
     yield f"{of_link('waiting', number, places)} contents {len(it.contents)} again {it.again} control {len(it.control)}"
-    counted = [f"{name} {n}" for name, n in zip(COUNTED_OF_LINK, it.counted) if n]
+    counted = [f"{name.replace('_', '-')} {n}" for name, n in zip(COUNTED_OF_LINK, it.counted) if n]
     if counted:
         yield " ".join([of_link("counted", number, places), *counted])
     for octets in it.contents:
@@ -77,7 +80,7 @@ def line(config: Config, it: Line) -> Iterator[str]:
 
 def counters(it: Line) -> Iterator[str]:
     """As `counters` and `messages` of a script show them."""
-    for group in (slice(len(COUNTERS)), slice(len(COUNTERS), None)):
+    for group in (slice(FIRST_MESSAGE), slice(FIRST_MESSAGE, None)):
         shown = [f"counter {name} {n}" for name, n in zip(COUNTED[group], it.counters[group]) if n]
         yield from shown or ["nothing"]
 

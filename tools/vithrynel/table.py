@@ -1,0 +1,109 @@
+"""The one table of what include/lapd.h does not say of its names: how a configuration stands in a card line and in an image, the
+ranges of its numbers, and what they are. `tools/names` writes from both what other files spell, other modules read it, and
+tests/c/declared compares it with the definitions in Rattle. A new field of lapd_config is a row here. A function a step:
+
+    card_line    the numbers of a card line, in order
+    endings      what may stand after them
+    taken_apart  a card line's words as numbers and endings
+    texts        the texts of the header's numbers, as a function of it has them
+    counters     what is counted of a line, in order
+    counted      what is counted of a link, in order
+"""
+import functools
+import re
+from typing import Dict, Iterable, List, NamedTuple, Tuple
+
+from .header import HEADER, numbers, structs
+
+
+class Field(NamedTuple):
+    """A field of lapd_config that is a number; in the header's order."""
+    name: str
+    least: int
+    most: int
+    octets: int  # in an image: all of one octet come before those of two
+    words: str
+    at_least: Tuple[str, ...] = ()  # its least is the greatest of these fields, too
+    left_out: str = ""  # the last number of a card line, which may be left out, and is this field then
+    after: str = ""  # no number of the card line: it stands after this word
+    usual: int = 0  # what 0 means in lapd_config, and no word in a card line
+
+
+FIELDS = [
+    Field("lines", 1, 64, 1, "the lines of the card"),
+    Field("terminals", 1, 8, 1, "TEIs on each line"),
+    Field("k", 1, 127, 1, "the window of call control links (clause 5.9.5)"),
+    Field("k16", 1, 127, 1, "the window of links of the second service", left_out="k"),
+    Field("queue", 1, 127, 1, "contents that wait on each link, sent or unsent", at_least=("k", "k16")),
+    Field("unit_queue", 1, 16, 1, "unit data that wait on each line"),
+    Field("control", 2, 16, 1, "control frames that wait on each link"),
+    Field("slots", 1, 8192, 2, "contents that wait on the whole card"),
+    Field("n201", 8, 260, 2, "octets of an information field at most (clause 5.9.3)"),
+    Field("n200", 0, 10, 1, "how often a command is repeated (clause 5.9.2)"),
+    Field("sapi", 1, 62, 1, "the SAPI of the second service", after="sapi", usual=16),
+]
+# The other fields name one of an enum; flags of an image say which, and these words of a card line. Of a terminal its seed follows.
+SIDE, READING = "user", "annex-b"
+
+
+class Ending(NamedTuple):
+    """A word that may stand at the end of a card line, and what may follow it."""
+    word: str
+    counts: Tuple[int, ...]  # of words that follow it; fewer are tried first
+    from_place: int  # it is none before
+
+
+def card_line() -> List[Field]:
+    return sorted((it for it in FIELDS if not it.after), key=lambda it: it.left_out != "")
+
+
+def least_numbers() -> int:
+    """So many numbers each card line has."""
+    return sum(not it.left_out for it in card_line())
+
+
+def endings() -> List[Ending]:
+    """In the order in which they stand."""
+    return [Ending(SIDE, (0, 1), least_numbers()), *(Ending(it.after, (1,), 0) for it in FIELDS if it.after), Ending(READING, (0,), 0)]
+
+
+def taken_apart(words: List[str]) -> Tuple[List[str], Dict[str, List[str]]]:
+    """The numbers of a card line's words, however many, and what follows each ending that is there. It is read from its end."""
+    found: Dict[str, List[str]] = {}
+    for it in reversed(endings()):
+        at = next((len(words) - 1 - count for count in it.counts if words[-1 - count:][:1] == [it.word]), -1)
+        if at >= it.from_place:
+            found[it.word], words = words[at + 1:], words[:at]
+    return words, found
+
+
+def numbers_of(words: List[str], ended: Dict[str, List[str]]) -> Dict[str, int]:
+    """By their fields the numbers that a card line says, or leaves out: of words as `taken_apart` has them."""
+    found = {it.name: int(word) for it, word in zip(card_line(), words)}
+    found.update({it.name: found[it.left_out] for it in FIELDS if it.left_out and it.name not in found})
+    return {**found, **{it.name: int(ended[it.after][0]) if it.after in ended else it.usual for it in FIELDS if it.after}}
+
+
+def in_order(names: Iterable[str]) -> List[Field]:
+    """The fields of an image, those of one octet first."""
+    return sorted((it for it in FIELDS if it.name in names), key=lambda it: it.octets)
+
+
+@functools.lru_cache(None)
+def texts(function: str) -> Dict[str, str]:
+    """By the header's names the texts that a function of it answers; without the ending of packet links."""
+    with open(HEADER, encoding="utf-8") as file:
+        body = re.search(rf" \*?{function}\(.*?^\}}", file.read(), re.M | re.S)
+    return {name: text for name, text in re.findall(r'case (LAPD_\w+): return (?:packet \? "[^"]*" : )?"([^"]*)";', body[0] if body else "")}
+
+
+def counters() -> List[str]:
+    """As a script shows them: the header's names by their places."""
+    own = numbers()
+    first = own["LAPD_HEARD_I"]
+    names = [name for name in own if re.match("LAPD_(HEARD|BEGUN|DROPPED|ERRORS|TOLD)_|LAPD_LOST$", name)]
+    return [it[len("LAPD_"):].lower().replace("_", "-") for it in sorted(names, key=lambda it: own[it] - first)]
+
+
+def counted() -> List[str]:
+    return [it.name for it in structs()["lapd_link_counters"].fields if it.name != "reserved"]

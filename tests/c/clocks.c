@@ -23,7 +23,7 @@
 
 #include "ends.h"
 
-enum { MOST_BEATS = 30000, BEHIND = 1500 };
+enum { MOST_BEATS = 30000, AFTER = 1500 };
 
 typedef struct {
     int rate, way;    /* octets in a millisecond, and in transit */
@@ -46,7 +46,7 @@ static long last_to_come(const world *w, end *e, bool command) {
     pid_t copy = fork();
     if (copy < 0) fails("a copy");
     if (copy == 0) {
-        for (int i = 0; i < BEHIND; i++) {
+        for (int i = 0; i < AFTER; i++) {
             e->count = 0;
             pull(e, w->now);
         }

@@ -99,7 +99,7 @@ def edited(header: str, *pairs: str) -> str:
 
 
 def taken(header: str, before: str, field: str) -> str:
-    """A header with a field in the first reserved place of a struct, behind the text that stands before these places."""
+    """A header with a field in the first reserved place of a struct, after the text that stands before these places."""
     found = re.search(rf"{before}[^\n]*\n    (uint\d+_t) reserved\[(\d+)\]", header)
     if not found:
         raise ValueError(f"an edit does not fit the header: {before}")

@@ -21,7 +21,7 @@ def draw(_: str) -> str:
     it = Drawing(
         "Two enquiries in transit",
         "T200 expires while an enquiry is still to be answered. The answer to the second enquiry is taken for that to the third, "
-        "so V(S) goes back behind an I-frame that has gone. Its acknowledgement then names nothing that was sent: error J and a new "
+        "so V(S) goes back past an I-frame that has gone. Its acknowledgement then names nothing that was sent: error J and a new "
         "establishment, after which the other end delivers the same contents again.",
     )
     it.text(WIDTH / 2, 30, "A T200 that is too short: no frame is lost, and contents are told twice", size=15, anchor="middle", bold=True)

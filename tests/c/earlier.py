@@ -3,6 +3,10 @@ and tests/c/run. tests/c/versions keeps the header of each version, and a table 
 
     struct NAME OCTETS ALIGNMENT        field STRUCT NAME TYPE PLACE [COUNT]
     number NAME VALUE                   call RESULT NAME PARAMETERS
+    value NAME WORDS                    inline RESULT NAME PARAMETERS
+
+A value is what a #define stands for, as an initialiser, with numbers in place of their names. An inline call is one that the header
+defines.
 """
 import os
 import re
@@ -12,12 +16,14 @@ from typing import Dict, List, NamedTuple, Set
 HERE = os.path.dirname(os.path.abspath(__file__))
 KEPT = f"{HERE}/versions"
 sys.path.insert(0, os.path.join(os.path.dirname(os.path.dirname(HERE)), "tools"))
-from vithrynel.header import Field, Struct, bare, functions_in, numbers_in, octets_of, structs_in
+from vithrynel.header import Field, Function, Struct, bare, functions_in, inlines_in, numbers_in, octets_of, structs_in
 
 # Numbers that may grow with a new minor version: how many counters there are.
 GROWING = {"LAPD_COUNTERS"}
 # How a field is called that keeps room for a later version.
 RESERVED = "reserved"
+# How a value ends that has reserved places.
+REST = " { 0 } }"
 
 
 class Shape(NamedTuple):
@@ -25,13 +31,25 @@ class Shape(NamedTuple):
     structs: Dict[str, Struct]
     numbers: Dict[str, int]
     calls: Dict[str, str]
+    values: Dict[str, str]
+    inlines: Dict[str, str]
+
+
+def spelt(it: Function) -> str:
+    return " ".join([it.result, it.name, *(f"{'const ' * one.is_const}{one.kind}{'*' * one.is_pointer}" for one in it.parameters)])
+
+
+def values_in(words: str) -> Dict[str, str]:
+    """What each #define stands for that is an initialiser or a number in brackets, word by word."""
+    known = {name: str(value) for name, value in numbers_in(words).items()}
+    rows = re.findall(r"^#define (LAPD_\w+) ([({].*)$", words, re.M)
+    return {name: " ".join(known.get(it, it) for it in re.findall(r"\w+|<<|[{}()]", value)) for name, value in rows}
 
 
 def shape(header: str) -> Shape:
     words = bare(header)
-    calls = {it.name: " ".join([it.result, it.name, *(f"{'const ' * one.is_const}{one.kind}{'*' * one.is_pointer}" for one in it.parameters)])
-             for it in functions_in(words)}
-    return Shape(structs_in(words), numbers_in(words), calls)
+    return Shape(structs_in(words), numbers_in(words), {it.name: spelt(it) for it in functions_in(words)}, values_in(words),
+                 {it.name: spelt(it) for it in inlines_in(words)})
 
 
 def table(of: Shape) -> List[str]:
@@ -39,7 +57,8 @@ def table(of: Shape) -> List[str]:
     for it in of.structs.values():
         rows.append(f"struct {it.name} {it.octets} {it.alignment}")
         rows += [f"field {it.name} {one.name} {one.kind.replace(' ', '')} {one.at}{'' if one.count is None else f' {one.count}'}" for one in it.fields]
-    return rows + [f"number {name} {value}" for name, value in of.numbers.items()] + [f"call {it}" for it in of.calls.values()]
+    rows += [f"number {name} {value}" for name, value in of.numbers.items()] + [f"call {it}" for it in of.calls.values()]
+    return rows + [f"value {name} {it}" for name, it in of.values.items()] + [f"inline {it}" for it in of.inlines.values()]
 
 
 def versions() -> List[str]:
@@ -75,6 +94,14 @@ def broken_struct(was: Struct, now: Struct, before: Shape, after: Shape) -> List
                     if it.name not in known and it.name != RESERVED and not places(it, after.structs) <= free]
 
 
+def is_value(was: str, now: str) -> bool:
+    """Whether a value is as it was, except that new fields have taken reserved places, and are 0."""
+    if not (was.endswith(REST) and now.endswith(REST)):
+        return was == now
+    fields, more = was[:-len(REST)].split(), now[:-len(REST)].split()
+    return more[:len(fields)] == fields and set(more[len(fields):]) <= {"0"}
+
+
 def broken(before: Shape, after: Shape) -> List[str]:
     """What of the rule a later header breaks: nothing if a program of before runs over its library."""
     wrong = [f"struct {name} is gone" for name in before.structs if name not in after.structs]
@@ -84,6 +111,10 @@ def broken(before: Shape, after: Shape) -> List[str]:
         now = after.numbers.get(name)
         if now != value and not (name in GROWING and now is not None and now > value):
             wrong.append(f"{name} is {now}, not {value}")
+    wrong += [f"{name} is {after.values.get(name)}, not {it}" for name, it in before.values.items() if not is_value(it, after.values.get(name, ""))]
+    # what a header defined may become a call of the library
+    there = {**after.calls, **after.inlines}
+    wrong += [f"{name} is {there.get(name)}, not {it}" for name, it in before.inlines.items() if there.get(name) != it]
     return wrong + [f"{name} is {after.calls.get(name)}, not {it}" for name, it in before.calls.items() if after.calls.get(name) != it]
 
 
@@ -107,14 +138,23 @@ def taken(header: str, before: str, field: str) -> str:
     return header[:found.start(1) - 4] + (f"    {found[1]} {field};\n" if field else "") + rest + header[found.end():]
 
 
+ASKS_PATIENCE = """LAPD_INLINE bool lapd_is_patient(const lapd_config *config) {
+    return config->patience != 0;
+}
+
+"""
+
+
 def grown(header: str) -> str:
-    """A copy with a field of the configuration, a counter, a number of a report, and a status: what a minor version may bring."""
+    """A copy with a field of the configuration and a call that asks of it, a counter, a number of a report, and a status: what a minor
+    version may bring."""
     counters = numbers_in(bare(header))["LAPD_COUNTERS"]
     header = taken(taken(header, "uint16_t reading;", "patience"), "uint8_t given_up_tei;", "patient")
     header = header.replace("LAPD_ANNEX_B, { 0 } }", "LAPD_ANNEX_B, 0, { 0 } }")
     header = taken(header, r"values\[LAPD_COUNTERS\];", "")
     return edited(header, f"LAPD_COUNTERS = {counters}\n", f"LAPD_HEARD_PATIENCE = {counters}, LAPD_COUNTERS = {counters + 1}\n",
-                  "LAPD_BAD_RESERVED = 47,", "LAPD_BAD_RESERVED = 47, LAPD_IMPATIENT = 99,")
+                  "LAPD_BAD_RESERVED = 47,", "LAPD_BAD_RESERVED = 47, LAPD_IMPATIENT = 99,",
+                  "LAPD_INLINE bool lapd_tells", ASKS_PATIENCE + "LAPD_INLINE bool lapd_tells")
 
 
 def trials(header: str) -> Dict[str, str]:
@@ -131,4 +171,16 @@ def trials(header: str) -> Dict[str, str]:
         "a counter that moves": edited(header, r"LAPD_LOST = 64,", "LAPD_LOST = 65,"),
         "a call with another parameter": edited(header, r"lapd_lines\(lapd_card \*card, uint32_t \*lines\);", "lapd_lines(lapd_card *card, uint16_t *lines);"),
         "a call that goes": edited(header, r"LAPD_STATUS lapd_stored\([^\n]*\n", ""),
+        "an inline call of another name": edited(header, r"LAPD_INLINE bool lapd_tells\(", "LAPD_INLINE bool lapd_has_told("),
+        "an inline call with a parameter more": edited(header, r"LAPD_INLINE uint8_t lapd_turned\(uint8_t octet\)", "LAPD_INLINE uint8_t lapd_turned(uint8_t octet, bool is_turned)"),
+        "an inline call that answers another type": edited(header, r"LAPD_INLINE uint8_t lapd_turned\(", "LAPD_INLINE uint16_t lapd_turned("),
+        "an inline call that was one of the library": edited(header, r"LAPD_STATUS lapd_stored\(lapd_card \*card, uint32_t \*octets\);",
+                                                             "LAPD_INLINE_STATUS lapd_stored(lapd_card *card, uint32_t *octets) {\n}"),
+        "another latest moment": edited(header, r"UINT64_C\(1\) << 63", "UINT64_C(1) << 62"),
+        "another window of basic access": edited(header, r"LAPD_BASIC_ACCESS \{ 1, 8, 1, 3,", "LAPD_BASIC_ACCESS { 1, 8, 3, 3,"),
+        "another reading of primary rate": edited(header, r"(LAPD_PRIMARY_RATE \{.*) LAPD_ANNEX_B,", r"\1 LAPD_PROFILE,"),
+        "a preset whose new field is on": edited(header, r"(LAPD_PRIMARY_RATE \{.*) \{ 0 \} \}", r"\1 1, { 0 } }"),
+        "a preset whose reserved place is on": edited(header, r"(LAPD_PRIMARY_RATE \{.*) \{ 0 \} \}", r"\1 { 1 } }"),
+        "a preset that goes": edited(header, r"#define LAPD_BASIC_ACCESS .*\n", ""),
+        "other default lengths": edited(header, r"\{ 1000, 10000,", "{ 2500, 10000,"),
     }

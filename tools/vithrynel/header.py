@@ -68,6 +68,12 @@ def functions_in(words: str) -> List[Function]:
             for result, name, words in rows]
 
 
+def inlines_in(words: str) -> List[Function]:
+    """The functions that a header defines."""
+    rows = re.findall(r"^static inline ([^(]*?\W)(lapd_\w+)\(([^)]*)\) \{", words, re.M)
+    return [Function(name, result.replace(" *", "*").strip(), tuple(map(parameter, words.split(",")))) for result, name, words in rows]
+
+
 @functools.lru_cache(None)
 def functions() -> List[Function]:
     """The functions of the library, in order: none of those that the header defines."""

@@ -33,9 +33,9 @@ static bool is_of_line(const queued *it) {
     return it->octets[CLASS] == IUA_QPTM || (it->octets[CLASS] == IUA_MGMT && it->octets[TYPE] == IUA_TEI_INDICATION);
 }
 
-static void watch(association *own) {
+static void watch_anew(association *own) {
     uint32_t events = (own->held == NULL ? EPOLLIN : 0u) | (own->is_full ? EPOLLOUT : 0u);
-    sd_event_source_set_io_events(own->source, events);
+    watch_set(&own->watch, events);
 }
 
 static uint64_t earlier(uint64_t one, uint64_t other) {
@@ -138,7 +138,7 @@ static void flush(association *own) {
     }
     trim(own);
     if (was_full != own->is_full)
-        watch(own);
+        watch_anew(own);
 }
 
 void association_vouched(association *own, uint32_t number) {
@@ -184,13 +184,13 @@ void association_hold(association *own, line *until) {
     own->held = until;
     own->held_until = loop_now() + HOLD_MS;
     counts.reads_held++;
-    watch(own);
+    watch_anew(own);
 }
 
 static void go_on(association *own) {
     own->held = NULL;
     own->beat_late = loop_now() + associations_beat; /* answers were not read meanwhile */
-    watch(own);
+    watch_anew(own);
 }
 
 void associations_forget(const line *own) {
@@ -199,21 +199,18 @@ void associations_forget(const line *own) {
             go_on(associations[i]);
 }
 
-static int is_ready(sd_event_source *source, int fd, uint32_t events, void *user) {
+static void is_ready(void *user, uint32_t events) {
     association *own = user;
-    (void)source;
-    (void)fd;
     if ((events & EPOLLOUT) != 0)
         own->is_full = false;
-    watch(own);
+    watch_anew(own);
     if (own->held != NULL && (events & (EPOLLHUP | EPOLLERR)) != 0)
         go_on(own);
     if ((events & (EPOLLIN | EPOLLHUP | EPOLLERR)) == 0)
-        return 0;
+        return;
     for (unsigned i = 0; i < MOST_OF_TURN && own->held == NULL && own->broken == NULL; i++)
         if (!transport_receive(own))
             break;
-    return 0;
 }
 
 static int is_due(sd_event_source *source, uint64_t time, void *user) {
@@ -244,7 +241,7 @@ bool association_begin(int fd, bool is_sctp, unsigned streams, const char *peer)
     *own = (association){.number = number, .fd = fd, .is_sctp = is_sctp, .streams = streams};
     snprintf(own->peer, sizeof own->peer, "%s", peer);
     own->timer = loop_timer(is_due, own);
-    if (own->timer == NULL || sd_event_add_io(loop, &own->source, fd, EPOLLIN, is_ready, own) < 0) {
+    if (own->timer == NULL || !watch_begin(&own->watch, fd, EPOLLIN, is_ready, own)) {
         sd_event_source_disable_unref(own->timer);
         free(own);
         return false;
@@ -256,7 +253,7 @@ bool association_begin(int fd, bool is_sctp, unsigned streams, const char *peer)
 
 static void end(association *own) {
     log_line(LOG_EVENT, "association %u: it ends: %s", own->number, own->broken);
-    sd_event_source_disable_unref(own->source);
+    watch_end(&own->watch);
     sd_event_source_disable_unref(own->timer);
     close(own->fd);
     own->is_up = false;

@@ -16,6 +16,7 @@
 #include "configuration.h"
 #include "iua.h"
 #include "queue.h"
+#include "watches.h"
 
 enum {
     MOST_ASSOCIATIONS = 32,
@@ -38,7 +39,8 @@ struct association {
     bool is_sctp;
     unsigned streams; /* that go */
     char peer[PEER_ROOM]; /* for the log */
-    sd_event_source *source, *timer;
+    watch watch;
+    sd_event_source *timer;
     bool is_up; /* the process said ASP Up, and not ASP Down since */
     bool has_asp;
     uint32_t asp; /* its identifier */

@@ -50,6 +50,7 @@ void line_up(line *own) {
     own->is_up = true;
     log_line(LOG_EVENT, "line %u: layer 1 is there", own->identifier);
     links_have_layer1(own);
+    card_is_changed(own->card); /* frames may have waited */
 }
 
 void line_down(line *own) {

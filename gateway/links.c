@@ -103,7 +103,7 @@ static bool hears(line *own, const lapd_note *note, const lapd_report *report) {
     case LAPD_ESTABLISH_INDICATION:
     case LAPD_ESTABLISH_CONFIRM: return is_established(own, note);
     case LAPD_RELEASE_INDICATION:
-    case LAPD_RELEASE_CONFIRM: return is_down(own, note);
+    case LAPD_RELEASE_CONFIRM: return !own->links.is_beginning && is_down(own, note);
     case LAPD_DATA_INDICATION:
         if (!links_tell_contents(own, false, note, report->contents, report->length))
             links_lost(own, note->service, note->tei);
@@ -141,16 +141,26 @@ void links_lose_layer1(line *own) {
     }
 }
 
+/* T200 ran while layer 1 was away, so a SABME may wait several times, or a DISC. All of these are given up. A link that was up, or
+ * was asked for, is established, by one SABME that counts as the first. */
+static void begin_anew(line *own, link_record *link) {
+    uint8_t state = card_state(own->card, own->at, link->service, link->tei);
+    bool is_again = state == 5 || (state == 4 && link->was_up && link->service == LAPD_CALL);
+    link->was_up = false;
+    link->reason = IUA_BY_OTHER;
+    link->again_ms = 0;
+    link->again_at = 0;
+    (void)card_ask(own->card, own->at, LAPD_DEACTIVATE, link->service, link->tei, NULL, 0);
+    if (is_again)
+        (void)card_ask(own->card, own->at, LAPD_ESTABLISH, link->service, link->tei, NULL, 0);
+}
+
 void links_have_layer1(line *own) {
-    for (link_record *it = own->links.at; it < own->links.at + own->links.count; it++) {
-        bool is_again = it->is_used && it->was_up && it->service == LAPD_CALL;
-        it->was_up = false;
-        it->reason = IUA_BY_OTHER;
-        it->again_ms = 0;
-        it->again_at = 0;
-        if (is_again && card_state(own->card, own->at, it->service, it->tei) == 4)
-            (void)card_ask(own->card, own->at, LAPD_ESTABLISH, it->service, it->tei, NULL, 0);
-    }
+    own->links.is_beginning = own->links.is_settling = true;
+    for (link_record *it = own->links.at; it < own->links.at + own->links.count; it++)
+        if (it->is_used)
+            begin_anew(own, it);
+    own->links.is_beginning = own->links.is_settling = false;
     links_settle(own);
 }
 

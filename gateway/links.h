@@ -45,6 +45,7 @@ typedef struct {
     link_record *at;
     unsigned count;
     bool is_settling, is_stale;   /* it is being settled; and has to be once more */
+    bool is_beginning;            /* layer 1 is back: its links begin anew, and that they go down before is no news */
     bool is_unsettled;            /* something is under way that no note may tell */
     bool owes_teis;               /* TEIs may differ from what was told */
     bool is_short;                /* a link found no record, since others are owed something */

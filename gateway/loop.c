@@ -27,7 +27,7 @@ static uint64_t system_time(void) {
 bool loop_begin(void) {
     origin = system_time();
     base = 0;
-    return sd_event_default(&loop) >= 0;
+    return sd_event_new(&loop) >= 0;
 }
 
 void loop_set_now(uint64_t moment) {

@@ -43,13 +43,17 @@ static void put_stream(struct msghdr *message, void *control, size_t room, uint1
     memcpy(CMSG_DATA(head), &info, sizeof info);
 }
 
-bool transport_send(association *own, const queued *it) {
+static ssize_t send_by_sctp(int fd, const queued *it) {
     _Alignas(struct cmsghdr) char control[CMSG_SPACE(sizeof(struct sctp_sndinfo))];
     struct iovec part = {.iov_base = (void *)(uintptr_t)it->octets, .iov_len = it->length};
     struct msghdr message = {.msg_iov = &part, .msg_iovlen = 1};
-    if (own->is_sctp)
-        put_stream(&message, control, sizeof control, it->stream);
-    if (sendmsg(own->fd, &message, MSG_DONTWAIT | MSG_NOSIGNAL) >= 0)
+    put_stream(&message, control, sizeof control, it->stream);
+    return sendmsg(fd, &message, MSG_DONTWAIT | MSG_NOSIGNAL);
+}
+
+bool transport_send(association *own, const queued *it) {
+    ssize_t sent = own->is_sctp ? send_by_sctp(own->fd, it) : send(own->fd, it->octets, it->length, MSG_DONTWAIT | MSG_NOSIGNAL);
+    if (sent >= 0)
         return true;
     if (errno != EAGAIN && errno != EINTR && errno != ENOBUFS)
         association_break(own, strerror(errno));
@@ -74,28 +78,32 @@ static void take_notification(association *own, const uint8_t *octets, size_t le
         association_break(own, change.sac_state == SCTP_COMM_LOST ? "the other end is lost" : "it was shut down");
 }
 
+/* It is a message, a notification, or of another protocol. */
+static void take_from_sctp(association *own, struct msghdr *message, const uint8_t *octets, size_t length) {
+    if ((message->msg_flags & MSG_NOTIFICATION) != 0) {
+        take_notification(own, octets, length);
+        return;
+    }
+    struct sctp_rcvinfo info = info_of(message);
+    if (ntohl(info.rcv_ppid) == IUA_PAYLOAD)
+        message_came(own, info.rcv_sid, octets, length);
+}
+
 bool transport_receive(association *own) {
-    static uint8_t octets[IUA_LONGEST + HEAD_ROOM];
+    static uint8_t octets[IUA_LONGEST + HEAD_ROOM]; /* a message that is too long is cut off, and its length no longer fits */
     _Alignas(struct cmsghdr) char control[MOST_CONTROL];
     struct iovec part = {.iov_base = octets, .iov_len = sizeof octets};
     struct msghdr message = {.msg_iov = &part, .msg_iovlen = 1, .msg_control = control, .msg_controllen = sizeof control};
-    ssize_t length = recvmsg(own->fd, &message, MSG_DONTWAIT);
+    ssize_t length = own->is_sctp ? recvmsg(own->fd, &message, MSG_DONTWAIT) : recv(own->fd, octets, sizeof octets, MSG_DONTWAIT);
     if (length < 0 && (errno == EAGAIN || errno == EINTR))
         return false;
-    if (length <= 0) {
+    if (length <= 0)
         association_break(own, length == 0 ? "it was closed" : strerror(errno));
-        return false;
-    }
-    if (own->is_sctp && (message.msg_flags & MSG_NOTIFICATION) != 0) {
-        take_notification(own, octets, (size_t)length);
-        return own->broken == NULL;
-    }
-    struct sctp_rcvinfo info = info_of(&message);
-    if (own->is_sctp && ntohl(info.rcv_ppid) != IUA_PAYLOAD)
-        return true; /* of another protocol */
-    /* One that is too long is cut off, and its length no longer fits. */
-    message_came(own, info.rcv_sid, octets, (size_t)length);
-    return true;
+    else if (own->is_sctp)
+        take_from_sctp(own, &message, octets, (size_t)length);
+    else
+        message_came(own, 0, octets, (size_t)length);
+    return own->broken == NULL;
 }
 
 /* ---- Processes join ----------------------------------------------------------------------------------------------------- */

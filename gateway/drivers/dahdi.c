@@ -20,6 +20,7 @@
 #include "../log.h"
 #include "../loop.h"
 #include "../standby.h"
+#include "../watches.h"
 #include "driver.h"
 
 enum { CHECK_OCTETS = 2, BUFFERS = 8, BUFFER_OCTETS = 1024, MOST_OF_TURN = 16 };
@@ -30,7 +31,8 @@ enum { SETTLE_MS = 20, AGAIN_MS = 1000 }; /* a frame that goes sooner after the 
 typedef struct {
     line *of;
     int fd; /* -1: the device is gone */
-    sd_event_source *source, *timer;
+    watch watch;
+    sd_event_source *timer;
 } port;
 
 static bool fails(const line *own, const char *what) {
@@ -42,7 +44,7 @@ static bool fails(const line *own, const char *what) {
 /* The device is gone, and is tried again later. */
 static void leave(port *own, const char *why) {
     fails(own->of, why);
-    own->source = sd_event_source_disable_unref(own->source);
+    watch_end(&own->watch);
     close(own->fd);
     own->fd = -1;
     standby_descriptor(own->of, -1);
@@ -87,8 +89,8 @@ static void take_events(port *own) {
 
 /* ---- Frames ------------------------------------------------------------------------------------------------------------- */
 
-static void watch(const port *own, bool for_room) {
-    sd_event_source_set_io_events(own->source, EPOLLIN | EPOLLPRI | (for_room ? EPOLLOUT : 0u));
+static void watch_anew(port *own, bool for_room) {
+    watch_set(&own->watch, EPOLLIN | EPOLLPRI | (for_room ? EPOLLOUT : 0u));
 }
 
 static bool has_room(const port *own) {
@@ -102,7 +104,7 @@ static driver_result send_frame(line *own, const uint8_t *frame, size_t length) 
     uint8_t octets[LAPD_MOST_FRAME + CHECK_OCTETS] = {0};
     memcpy(octets, frame, length);
     if (to->fd >= 0 && !has_room(to)) {
-        watch(to, true);
+        watch_anew(to, true);
         return DRIVER_FULL;
     }
     while (to->fd >= 0 && write(to->fd, octets, length + CHECK_OCTETS) < 0) {
@@ -131,23 +133,20 @@ static void take_frames(port *own) {
     }
 }
 
-static int is_ready(sd_event_source *source, int fd, uint32_t events, void *user) {
+static void is_ready(void *user, uint32_t events) {
     port *own = user;
-    (void)source;
-    (void)fd;
     if ((events & EPOLLPRI) != 0)
         take_events(own);
     if (own->fd >= 0 && (events & EPOLLIN) != 0)
         take_frames(own);
     if (own->fd >= 0 && (events & EPOLLOUT) != 0) {
-        watch(own, false);
+        watch_anew(own, false);
         line_has_room(own->of);
     }
     if (own->fd >= 0 && (events & (EPOLLERR | EPOLLHUP)) != 0 && (events & (EPOLLPRI | EPOLLIN)) == 0) {
         errno = ENODEV;
         leave(own, "it is gone");
     }
-    return 0;
 }
 
 /* ---- A line begins and ends --------------------------------------------------------------------------------------------- */
@@ -188,14 +187,14 @@ static const char *open_channel(port *own) {
         return "it is not in HDLC mode with its check (dchan or hardhdlc)";
     if (ioctl(own->fd, DAHDI_SET_BUFFERS, &buffers) != 0)
         return "it takes no buffers";
-    return sd_event_add_io(loop, &own->source, own->fd, EPOLLIN | EPOLLPRI, is_ready, own) >= 0 ? NULL : "it can't be watched";
+    return watch_begin(&own->watch, own->fd, EPOLLIN | EPOLLPRI, is_ready, own) ? NULL : "it can't be watched";
 }
 
 static const char *open_whole(port *own) {
     const char *fault = open_channel(own);
     int why = errno;
     if (fault != NULL && own->fd >= 0) {
-        own->source = sd_event_source_disable_unref(own->source);
+        watch_end(&own->watch);
         close(own->fd);
         own->fd = -1;
     }
@@ -229,7 +228,7 @@ static bool begin(const configuration *from) {
 
 static void close_line(line *own) {
     port *it = own->port;
-    sd_event_source_disable_unref(it->source);
+    watch_end(&it->watch);
     sd_event_source_disable_unref(it->timer);
     if (it->fd >= 0)
         close(it->fd);

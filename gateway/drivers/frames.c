@@ -18,6 +18,7 @@
 #include "../loop.h"
 #include "../octets.h"
 #include "../standby.h"
+#include "../watches.h"
 #include "driver.h"
 
 enum { BACKLOG = 1024, MOST_STRANGERS = 1024, PATIENCE_MS = 5000, MOST_OF_TURN = 16, SEND_OCTETS = 4096 };
@@ -26,7 +27,8 @@ enum { BACKLOG = 1024, MOST_STRANGERS = 1024, PATIENCE_MS = 5000, MOST_OF_TURN =
 typedef struct {
     line *of; /* NULL: it has not said which */
     int fd;
-    sd_event_source *source, *timer; /* the timer of one that has not said it */
+    watch watch;
+    sd_event_source *timer; /* of one that has not said it */
 } port;
 
 static sd_event_source *listener;
@@ -34,7 +36,7 @@ static unsigned strangers;
 
 static void end_port(port *own) {
     strangers -= own->of == NULL;
-    sd_event_source_disable_unref(own->source);
+    watch_end(&own->watch);
     sd_event_source_disable_unref(own->timer);
     close(own->fd);
     free(own);
@@ -90,8 +92,8 @@ static bool name_line(port *own, const uint8_t *octets, size_t length) {
 
 /* Many sockets may be ready at once. So the loop hears of each once, and not again and again until it is its turn. What is called
  * then reads until nothing is left; if it stops before, it watches anew. */
-static void watch(const port *own, bool for_room) {
-    sd_event_source_set_io_events(own->source, EPOLLIN | EPOLLET | (for_room ? EPOLLOUT : 0u));
+static void watch_anew(port *own, bool for_room) {
+    watch_set(&own->watch, EPOLLIN | EPOLLET | (for_room ? EPOLLOUT : 0u));
 }
 
 typedef enum { TOOK, NOTHING_LEFT, IS_OVER } outcome;
@@ -110,23 +112,20 @@ static outcome take(port *own) {
     return TOOK;
 }
 
-static int is_ready(sd_event_source *source, int fd, uint32_t events, void *user) {
+static void is_ready(void *user, uint32_t events) {
     port *own = user;
     outcome last = TOOK;
-    (void)source;
-    (void)fd;
     if ((events & EPOLLOUT) != 0) {
-        watch(own, false);
+        watch_anew(own, false);
         if (own->of != NULL)
             line_has_room(own->of);
     }
     for (unsigned i = 0; i < MOST_OF_TURN && last == TOOK; i++)
         last = take(own);
     if (last == TOOK)
-        watch(own, own->of != NULL && own->of->is_full);
+        watch_anew(own, own->of != NULL && own->of->is_full);
     else if (last == IS_OVER)
         leave(own);
-    return 0;
 }
 
 /* ---- Programs connect --------------------------------------------------------------------------------------------------- */
@@ -155,7 +154,7 @@ static int connects(sd_event_source *source, int socket, uint32_t events, void *
     /* Few frames wait in the socket, as timers run once they are there. */
     setsockopt(fd, SOL_SOCKET, SO_SNDBUF, &room, sizeof room);
     own->timer = loop_timer(is_late, own);
-    if (own->timer == NULL || sd_event_add_io(loop, &own->source, fd, EPOLLIN | EPOLLET, is_ready, own) < 0)
+    if (own->timer == NULL || !watch_begin(&own->watch, fd, EPOLLIN | EPOLLET, is_ready, own))
         end_port(own);
     else
         loop_set_timer(own->timer, loop_now() + PATIENCE_MS);
@@ -183,7 +182,7 @@ static bool open_line(line *own) {
     port *it = own->adopted < 0 ? NULL : calloc(1, sizeof *it);
     if (own->adopted < 0)
         return true;
-    if (it == NULL || sd_event_add_io(loop, &it->source, own->adopted, EPOLLIN | EPOLLET, is_ready, it) < 0) {
+    if (it == NULL || !watch_begin(&it->watch, own->adopted, EPOLLIN | EPOLLET, is_ready, it)) {
         free(it);
         close(own->adopted);
         line_down(own);
@@ -210,7 +209,7 @@ static driver_result send_frame(line *own, const uint8_t *frame, size_t length) 
         return DRIVER_SENT;
     if (errno != EAGAIN && errno != ENOBUFS)
         return DRIVER_SENT; /* it is lost, as any on a line; the end of the connection comes as an event */
-    watch(to, true);
+    watch_anew(to, true);
     return DRIVER_FULL;
 }
 

@@ -16,6 +16,7 @@
 #include "../log.h"
 #include "../loop.h"
 #include "../standby.h"
+#include "../watches.h"
 #include "driver.h"
 
 enum { LONGEST = 2048, AGAIN_MS = 1000 };
@@ -28,7 +29,8 @@ typedef struct {
 typedef struct {
     line *of;
     int fd; /* -1: the device is gone */
-    sd_event_source *source, *timer;
+    watch watch;
+    sd_event_source *timer;
     bool is_full; /* a frame is with layer 1, which has not confirmed it */
 } port;
 
@@ -72,7 +74,7 @@ static void activate(line *own) {
 /* ---- Messages of layer 1 ------------------------------------------------------------------------------------------------ */
 
 static void close_socket(port *own) {
-    own->source = sd_event_source_disable_unref(own->source);
+    watch_end(&own->watch);
     if (own->fd >= 0)
         close(own->fd);
     own->fd = -1;
@@ -95,23 +97,21 @@ static void take(port *own, const message *in, size_t length) {
     }
 }
 
-static int is_ready(sd_event_source *source, int fd, uint32_t events, void *user) {
+static void is_ready(void *user, uint32_t events) {
     port *own = user;
     message in;
-    (void)source;
     (void)events;
-    ssize_t length = recv(fd, &in, sizeof in, MSG_DONTWAIT);
+    ssize_t length = recv(own->fd, &in, sizeof in, MSG_DONTWAIT);
     if (length < 0 && (errno == EAGAIN || errno == EINTR))
-        return 0;
+        return;
     if (length >= (ssize_t)sizeof in.head) {
         take(own, &in, (size_t)length - sizeof in.head);
-        return 0;
+        return;
     }
     fails(own->of, "it is gone");
     close_socket(own);
     standby_descriptor(own->of, -1);
     line_down(own->of);
-    return 0;
 }
 
 /* ---- A line begins and ends --------------------------------------------------------------------------------------------- */
@@ -126,7 +126,7 @@ static bool open_socket(port *own) {
     own->fd = is_adopted ? own->of->adopted : socket(MISDN_FAMILY, kind, protocol);
     own->of->adopted = -1;
     if (own->fd >= 0 && (is_adopted || bind(own->fd, (struct sockaddr *)&address, sizeof address) == 0)
-        && sd_event_add_io(loop, &own->source, own->fd, EPOLLIN, is_ready, own) >= 0) {
+        && watch_begin(&own->watch, own->fd, EPOLLIN, is_ready, own)) {
         ask_for_layer1(own);
         standby_descriptor(own->of, own->fd);
         return true;

@@ -4,7 +4,7 @@ import time
 import iua
 from checks import check
 from iua import Association, data, link, number
-from peer import DISC, Peer
+from peer import DISC, UA, Frame, Peer
 from program import Gateway, group, server
 
 BY_MANAGEMENT, BY_LAYER1, BY_OTHER = 0, 1, 3
@@ -115,6 +115,47 @@ def waits(gateway, log):
         check("what waits goes out in order", peer.serve(0.5) == sent, peer.heard[-3:])
 
 
+def frames_in(peer, seconds):
+    """The kinds of frames that come in so many seconds."""
+    found, end = [], time.monotonic() + seconds
+    while time.monotonic() < end:
+        try:
+            found.append(peer.next(end - time.monotonic()))
+        except TimeoutError:
+            break
+    return [it.kind for it in found if isinstance(it, Frame)]
+
+
+def away(gateway, log):
+    """What a server asks for while layer 1 is away goes once as it is back, however often T200 ran out meanwhile."""
+    with Line(gateway, log, 103) as own, Peer(gateway.lines, 103, first=b"D") as peer:
+        own.send("establish-request")
+        own.send("data-request", data(b"kept"))
+        check("no frame goes while layer 1 is away", frames_in(peer, 2.5) == [], peer.heard)
+        peer.put(b"U")
+        found = frames_in(peer, 0.3)
+        check("layer 1 is back: one SABME goes", found == ["SABME"], found)
+        peer.begin(0, 0)
+        peer.response(UA)
+        own.came("it is answered", "establish-confirm")
+        check("data that waited go out", peer.serve(0.3) == [b"kept"], peer.heard[-3:])
+        peer.put(b"D")
+        own.came("layer 1 is lost", "release-indication", reason=BY_LAYER1)
+    with Line(gateway, log, 104) as own, Peer(gateway.lines, 104, first=b"D") as peer:
+        own.send("establish-request")
+        own.came("layer 1 does not come", "release-indication")
+        peer.put(b"U")
+        found = frames_in(peer, 0.3)
+        check("nothing goes of an establishment that was given up", found == [], found)
+        peer.establish()
+        own.came("the other end establishes", "establish-indication")
+    with Line(gateway, log, 105) as own, Peer(gateway.lines, 105, first=b"D") as peer:
+        own.send("unit-request", data(b"unit"))
+        time.sleep(0.3)
+        peer.put(b"U")
+        check("unit data that waited go out at once", frames_in(peer, 0.3) == ["UI"], peer.heard)
+
+
 def basic(gateway, log):
     """TEI management, and both services of basic access."""
     with Line(gateway, log, 0) as own, Peer(gateway.lines, 0) as peer:
@@ -196,11 +237,12 @@ def messages(place):
     """Each message of IUA, both ways, at primary rate, at basic access with both services, and on each side."""
     sections = [group("basic", 0, 2, "basic"), group("primary", 100, 1, "primary", establish="no"),
                 group("quick", 101, 1, "primary", establish="no", t200=200, n200=2),
-                group("more", 102, 1, "primary", establish="no"), group("sapi", 300, 1, "primary", establish="no", sapi=12),
+                group("more", 102, 1, "primary", establish="no"), group("away", 103, 1, "primary", establish="no"),
+                group("gone", 104, 2, "primary", establish="no", t200=200, n200=2), group("sapi", 300, 1, "primary", establish="no", sapi=12),
                 group("user", 400, 1, "primary", side="user", establish="no"),
                 group("terminal", 500, 1, "basic", side="terminal"), group("by-hand", 600, 1, "primary"), server("all", 0, 999)]
     with Gateway(place.program, place.folder("messages"), *sections, beat=10000) as gateway:
-        for test in (primary, refused, waits, basic, own_sapi, user, terminal, established):
+        for test in (primary, refused, waits, away, basic, own_sapi, user, terminal, established):
             test(gateway, place.log)
         check("all is counted", gateway.metric("iua_errors_sent_total") == 0, gateway.metrics())
     check("the gateway ends well", gateway.statuses == [0], gateway.statuses)

@@ -14,8 +14,8 @@ Outcome &Closure::timed(Outcome &outcome, Time from, Time to) {
         it.e.started_from = LONG_AGO;
         it.e.started_to = NEVER;
     }
-    if (!it.s.pending)
-        it.e.acknowledge_by = NEVER;
+    if (!it.s.pending && !it.s.sabme_waits)
+        it.e.due_by = NEVER;
     return outcome;
 }
 
@@ -65,7 +65,7 @@ bool Closure::close(Set &set, Time now, bool goes_down) {
             begun.s = State{};
             begun.s.heard = it.s.heard;
             begun.e.started_from = LONG_AGO;
-            begun.e.started_to = begun.e.acknowledge_by = NEVER;
+            begun.e.started_to = begun.e.due_by = NEVER;
             begun.e.losses += LOSSES_OF_RESET;
             add(set, begun);
         }

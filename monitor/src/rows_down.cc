@@ -57,14 +57,14 @@ void Rows::heard(const Possible &from, const Tapped &tapped, bool near, Outcomes
         begun.clear_flags().no_timer().enter(4).into(out);
     } else if (frame.kind == Kind::ui || frame.kind == Kind::xid) {
         unit(it, frame, out);
+    } else if (it.s.is_up()) {
+        states_7_and_8(it, tapped, near, out);
     } else {
-        switch (it.s.state) {
-        case 4: return state_4(it, frame, out);
-        case 5: return state_5(it, frame, out);
-        case 6: return state_6(it, frame, out);
-        default: return states_7_and_8(it, tapped, near, out);
-        }
+        it.s.state == 4 ? state_4(it, frame, out) : it.s.state == 5 ? state_5(it, frame, out) : state_6(it, frame, out);
     }
+    for (Outcome &outcome : out)
+        if (outcome.after.s.sabme_waits)
+            outcome.after.e.due_by = tapped.at + terms.delay;
 }
 
 } // namespace monitor

@@ -55,7 +55,7 @@ void Rows::information(const Possible &it, const Tapped &tapped, bool near, Outc
             course.answer();
         } else if (!s.pending) {
             s.pending = true;
-            course.outcome.after.e.acknowledge_by = tapped.at + terms.delay;
+            course.outcome.after.e.due_by = tapped.at + terms.delay;
         }
         number(course.outcome, frame, out);
     }

@@ -20,10 +20,10 @@ bool Evidence::widen(const Evidence &other) {
         lost = other.lost;
         is_wider = true;
     }
-    is_wider |= other.started_from < started_from || other.started_to > started_to || other.acknowledge_by > acknowledge_by;
+    is_wider |= other.started_from < started_from || other.started_to > started_to || other.due_by > due_by;
     started_from = std::min(started_from, other.started_from);
     started_to = std::max(started_to, other.started_to);
-    acknowledge_by = std::max(acknowledge_by, other.acknowledge_by);
+    due_by = std::max(due_by, other.due_by);
     return is_wider;
 }
 

@@ -54,7 +54,7 @@ struct Evidence {
     int losses = 0;
     std::array<uint32_t, TOWARDS> lost{};
     Time started_from = LONG_AGO, started_to = NEVER; // when its timer was started
-    Time acknowledge_by = NEVER;                      // when a pending acknowledgement is sent at the latest
+    Time due_by = NEVER; // when a pending acknowledgement, or a SABME that waits, is sent at the latest
 
     // Takes in another way to the same state. True: the evidence is another than before.
     bool widen(const Evidence &other);

@@ -99,11 +99,12 @@ void Watch::begin_judging(Time now) {
 
 // ---- What is overdue ----
 
-// A frame came, or is lost, within the delay. A pending acknowledgement was sent. T200 expired, and led to a frame.
+// A frame came, or is lost, within the delay. A pending acknowledgement was sent, and so was a SABME that waits. T200 expired, and
+// led to a frame.
 bool Watch::is_overdue(const Possible &it, Time now) const {
     if (it.s.heard < transit.tapped() && transit[it.s.heard].at + terms.delay < now)
         return true;
-    if (it.s.pending && it.e.acknowledge_by < now)
+    if ((it.s.pending || it.s.sabme_waits) && it.e.due_by < now)
         return true;
     return terms.t200 > 0 && it.s.timer == Timer::t200 && it.e.started_to < NEVER
         && it.e.started_to + terms.longest(terms.t200) + terms.delay + terms.wait < now;
@@ -114,8 +115,8 @@ Time Watch::next_deadline() const {
     for (const Possible &it : set) {
         if (it.s.heard < transit.tapped())
             first = std::min(first, transit[it.s.heard].at + terms.delay);
-        if (it.s.pending)
-            first = std::min(first, it.e.acknowledge_by);
+        if (it.s.pending || it.s.sabme_waits)
+            first = std::min(first, it.e.due_by);
         if (terms.t200 > 0 && it.s.timer == Timer::t200 && it.e.started_to < NEVER)
             first = std::min(first, it.e.started_to + terms.longest(terms.t200) + terms.delay + terms.wait);
     }
@@ -262,13 +263,31 @@ void Watch::ends() {
     set.forget_losses();
 }
 
+bool Watch::may_send(const Frame &frame, Time now) const {
+    Watch copy = *this;
+    Verdicts told;
+    copy.judge_overdue(now, told);
+    return told.empty() && copy.explain(frame, now, terms.goes_down, copy.following) && !copy.following.empty();
+}
+
+std::vector<State> Watch::states_closed(Time now) const {
+    Watch copy = *this;
+    Verdicts told;
+    std::vector<State> states;
+    copy.judge_overdue(now, told);
+    if (Closure(copy.terms, copy.transit).close(copy.set, now, terms.goes_down))
+        for (const Possible &it : copy.set)
+            states.push_back(it.s);
+    return states;
+}
+
 bool Watch::agrees(const Watch &other) const {
     if (set.size() != other.set.size() || is_silent != other.is_silent)
         return false;
     for (size_t place = 0; place < set.size(); place++) {
         const Possible &a = set[place], &b = other.set[place];
         if (a.s.key() != b.s.key() || a.e.losses != b.e.losses || a.e.started_from != b.e.started_from
-            || a.e.started_to != b.e.started_to || a.e.acknowledge_by != b.e.acknowledge_by)
+            || a.e.started_to != b.e.started_to || a.e.due_by != b.e.due_by)
             return false;
     }
     return true;

@@ -19,6 +19,9 @@ class Watch {
     void sends(const Frame &frame, Time now, Verdicts &told);
     // The capture ends.
     void ends();
+    // Whether some run of the tables has the end send this frame now; and in which states it may be. Nothing changes.
+    bool may_send(const Frame &frame, Time now) const;
+    std::vector<State> states_closed(Time now) const;
 
     void read_by(Reading reading) { terms.reading = reading; }
     const Terms &known() const { return terms; }

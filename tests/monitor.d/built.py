@@ -65,14 +65,19 @@ class Built:
             done(['cc', *STRICT_C, '-I%s' % (ROOT / 'dist'), '-o', self.work / name, *[HERE / it for it in files], *library])
 
     def hostile(self):
-        """The parts of the program, but for main.cc, with sanitizers, by another compiler if it is there; not the library."""
-        compiler = 'clang++' if shutil.which('clang++') else 'c++'
-        to = self.work / 'sanitized'
+        """With sanitizers, by another compiler if it is there; not the library."""
+        self.with_parts('hostile', ['hostile.cc'], 'clang++' if shutil.which('clang++') else 'c++', SANITIZED)
+
+    def rows(self):
+        self.with_parts('rows', ['rows.cc', 'cards.cc'], 'c++', ['-O2'])
+
+    def with_parts(self, name, files, compiler, flags):
+        """A program over the parts of the monitor, but for main.cc."""
+        to = self.work / ('parts-' + name)
         to.mkdir(exist_ok=True)
-        flags = [*SANITIZED, '-isystem', str(ROOT / 'dist')]
-        sources = [it for it in sorted((ROOT / 'monitor' / 'src').glob('*.cc')) if it.name != 'main.cc'] + [HERE / 'hostile.cc']
-        words = ' '.join([compiler, *STRICT_CC, *flags, '-I%s' % (ROOT / 'monitor' / 'src')])
-        makes = ['%s -c -o %s %s' % (words, to / (it.stem + '.o'), it) for it in sources]
+        parts = [it for it in sorted((ROOT / 'monitor' / 'src').glob('*.cc')) if it.name != 'main.cc']
+        words = ' '.join([compiler, *STRICT_CC, *flags, '-isystem', str(ROOT / 'dist'), '-I%s' % (ROOT / 'monitor' / 'src')])
+        makes = ['%s -c -o %s %s' % (words, to / (it.stem + '.o'), it) for it in [*parts, *[HERE / it for it in files]]]
         done(['xargs', '-d', '\n', '-P', self.jobs, '-I{}', 'sh', '-c', '{} || exit 255'], input='\n'.join(makes))
         library = [self.work / 'lapd.o', self.work / 'lapd_malloc.o']
-        done([compiler, *SANITIZED, '-o', self.work / 'hostile', *to.glob('*.o'), *library, '-lpcap'])
+        done([compiler, *flags, '-o', self.work / name, *to.glob('*.o'), *library, '-lpcap'])

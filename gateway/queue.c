@@ -40,6 +40,10 @@ queued *queue_add(queue *to, uint32_t identifier, const uint8_t *octets, size_t 
     return it;
 }
 
+queued *queue_add_below(queue *to, uint32_t identifier, const uint8_t *octets, size_t length) {
+    return all > MOST_OCTETS_BELOW ? NULL : queue_add(to, identifier, octets, length);
+}
+
 void queue_drop(queue *from) {
     queued *it = take_first(from);
     if (it->number != 0)

@@ -9,7 +9,10 @@
 #include <stddef.h>
 #include <stdint.h>
 
-enum { MOST_OCTETS_OF_QUEUES = 64 << 20 };
+enum {
+    MOST_OCTETS_OF_QUEUES = 64 << 20,
+    MOST_OCTETS_BELOW = 48 << 20 /* with so many in all queues, no more contents wait in front of links: the rest is for processes */
+};
 
 typedef struct queued queued;
 
@@ -29,8 +32,9 @@ typedef struct {
     size_t octets; /* of messages, without what the queue itself takes */
 } queue;
 
-/* A copy of these octets as the last of a queue; NULL: there is no room for it. */
+/* A copy of these octets as the last of a queue; NULL: there is no room for it. The second is for contents in front of a link. */
 queued *queue_add(queue *to, uint32_t identifier, const uint8_t *octets, size_t length);
+queued *queue_add_below(queue *to, uint32_t identifier, const uint8_t *octets, size_t length);
 
 /* The first goes away. The queue has one. */
 void queue_drop(queue *from);

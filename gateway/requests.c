@@ -44,7 +44,7 @@ static unsigned data(line *own, link_record *link, uint8_t state, const iua_mess
     if (state >= 7 && link->waiting.first == NULL
         && card_ask(own->card, own->at, LAPD_DATA, link->service, link->tei, message->data, message->length) == LAPD_OK)
         return IUA_OK;
-    if (queue_add(&link->waiting, own->identifier, message->data, message->length) == NULL)
+    if (queue_add_below(&link->waiting, own->identifier, message->data, message->length) == NULL)
         links_lost(own, link->service, link->tei);
     own->links.is_unsettled = true;
     return IUA_OK;

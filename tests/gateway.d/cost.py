@@ -4,31 +4,64 @@ import time
 
 from judged import Process
 from program import Ends, Gateway, compiled, group, run, server
+from standby import FOLLOWS
 
-LOADS = ((64, 40), (1000, 3))  # lines, and messages a second on each, each way
-SECONDS, TRIES = 8, 3
+# Lines, and how many messages each sends at once, each way, and how often a second.
+LOADS = ((64, 1, 40), (64, 5, 8), (1000, 1, 3), (1000, 5, 1))
+SECONDS, TRIES = 4, 2
+OCTETS = 40
 KINDS = {"primary": "primary rate", "basic": "basic access"}
+HEADS = ("as it begins", "`retain = no`", "with a standby", "a bare echo", "an echo that acknowledges")
 
 
-def of_gateway(place, ends, lines, rate):
+def processor(process):
+    """Seconds of processor that a process has had."""
+    with open(f"/proc/{process.pid}/schedstat", encoding="ascii") as file:
+        return int(file.read().split()[0]) / 1e9
+
+
+def of_gateway(place, ends, load, retain="yes", stands_by=False):
     """Microseconds of processor a message, under traffic both ways."""
-    folder = place.folder(f"cost-{lines}")
-    with Gateway(place.program, folder, group("all", 0, lines, "primary"), server("all", 0, lines - 1), state=False) as gateway:
-        own = Process(gateway, folder, 1, "active", rate=rate, lines=lines, octets=40, until=time.monotonic() + SECONDS + 60)
+    lines, each, rate = load
+    folder = place.folder(f"cost-{lines}-{each}-{retain}-{stands_by}")
+    sections = [group("all", 0, lines, "primary"), server("all", 0, lines - 1, retain=retain)]
+    more = {"standby": f"{folder}/standby"} if stands_by else {}
+    with Gateway(place.program, folder, *sections, state=False, **more) as gateway:
+        follower = followed(place, gateway, folder) if stands_by else None
+        own = Process(gateway, folder, 1, "active", rate=rate, each=each, lines=lines, octets=OCTETS,
+                      until=time.monotonic() + SECONDS + 60)
         own.wait_for("active")
-        with Ends(ends, gateway.lines, 0, lines, "primary", rate=rate, octets=40):
+        with Ends(ends, gateway.lines, 0, lines, "primary", rate=rate, each=each, octets=OCTETS):
             time.sleep(2)
-            before = gateway.metrics()
+            count, seconds = -messages_of(gateway), -processor(gateway.process)
             time.sleep(SECONDS)
-            after = gateway.metrics()
+            seconds += processor(gateway.process)
+            count += messages_of(gateway)
         own.end(signal.SIGTERM)
-    grown = {name: after[name] - before[name] for name in ("cpu_seconds_total", "iua_received_total", "iua_sent_total")}
-    count = grown["iua_received_total"] + grown["iua_sent_total"]
-    return 1e6 * grown["cpu_seconds_total"] / count, count / SECONDS
+        if follower is not None:
+            follower.stop()
+    return 1e6 * seconds / count
 
 
-def of_echo(echo, lines, rate):
-    words = run([echo, str(lines), str(rate), str(SECONDS)]).stdout.split()
+def followed(place, gateway, folder):
+    """A standby beside a gateway."""
+    it = Gateway(place.program, f"{folder}/standby-files", words=["--standby"])
+    it.file, it.port = gateway.file, gateway.port
+    it.start()
+    end = time.monotonic() + 30
+    while FOLLOWS not in it.log and time.monotonic() < end:
+        time.sleep(0.05)
+    return it
+
+
+def messages_of(gateway):
+    values = gateway.metrics()
+    return values["iua_received_total"] + values["iua_sent_total"]
+
+
+def of_echo(echo, load, acknowledges):
+    lines, each, rate = load
+    words = run([echo, str(lines), str(rate), str(SECONDS), str(each), *["acknowledged"] * acknowledges]).stdout.split()
     return float(words[1])
 
 
@@ -43,14 +76,19 @@ def memory(place, ends, kind):
     return (found[1] - found[0]) / (1000 - 64)
 
 
+def once(place, ends, echo, load):
+    """One try of all that the table compares, one after the other."""
+    return (of_gateway(place, ends, load), of_gateway(place, ends, load, retain="no"), of_gateway(place, ends, load, stands_by=True),
+            of_echo(echo, load, False), of_echo(echo, load, True))
+
+
 def cost(place):
     """Prints the table of docs/SPEED.md: the least of some tries, as this machine has other work."""
     ends, echo = place.compiled("ends"), compiled(place.top, "echo", library=False)
-    print("||`lapd-gateway`|a bare echo|\n|---|---|---|")
-    for lines, rate in LOADS:
-        tries = [(of_gateway(place, ends, lines, rate), of_echo(echo, lines, rate)) for _ in range(TRIES)]
-        (micros, a_second), bare = min(it[0] for it in tries), min(it[1] for it in tries)
-        print(f"|{lines:,} lines, {a_second:,.0f} messages a second: microseconds of processor a message|{micros:.1f}|{bare:.1f}|",
-              flush=True)
+    print(f"|microseconds of processor a message|{'|'.join(HEADS)}|\n|---|{'---|' * len(HEADS)}")
+    for load in LOADS:
+        least = [min(it) for it in zip(*[once(place, ends, echo, load) for _ in range(TRIES)])]
+        what = f"{load[0]:,} lines, {load[1]} at once, {load[2]} times a second"
+        print(f"|{what}|{'|'.join(f'{it:.1f}' for it in least)}|", flush=True)
     for kind, name in KINDS.items():
-        print(f"|a line of {name} more, with a link up: octets of memory|{memory(place, ends, kind):,.0f}||", flush=True)
+        print(f"A line of {name} more, with a link up: {memory(place, ends, kind):,.0f} octets of memory.", flush=True)

@@ -5,7 +5,7 @@
  *     ends PATH FIRST COUNT basic|primary [NAME=VALUE..]
  *
  * A message of Q.931 is answered as q931.h has it, and another comes back as it is. With `rate` or `burst` each line sends
- * numbered messages by itself, and answers none (numbered.h). What was sent, what came, and what a link told is written to the
+ * numbered messages by itself, `each` at a time, and answers none (numbered.h). What was sent, what came, and what a link told is written to the
  * file `record`. It says `up` when all links are up for the first time, and at its end what it counted. SIGUSR1 ends its messages.
  */
 #define _GNU_SOURCE
@@ -42,9 +42,9 @@ typedef struct {
 
 static struct {
     const char *path, *record;
-    unsigned first, count, rate, burst, octets, seconds, settle, loss, cut, seed, t200;
+    unsigned first, count, rate, each, burst, octets, seconds, settle, loss, cut, seed, t200;
     bool is_primary;
-} words = {.octets = NUMBERED_LEAST, .settle = 2, .seed = 1};
+} words = {.each = 1, .octets = NUMBERED_LEAST, .settle = 2, .seed = 1};
 
 static struct { uint64_t assigned, established, released, sent, came, answered, refused, given_up, errors, units, busy,
     joined; } counts;
@@ -264,8 +264,8 @@ static void generate(unsigned at) {
         while (it->is_up && it->sent < words.burst && it->next <= micros() && send_one(at))
             ;
     else
-        for (int i = 0; i < MOST_OFFERED && it->is_up && it->next <= micros() && send_one(at); i++)
-            it->next += 1000000 / words.rate;
+        for (unsigned i = 0; i < MOST_OFFERED * words.each && it->is_up && it->next <= micros() && send_one(at); i++)
+            it->next += it->sent % words.each == 0 ? 1000000 / words.rate : 0;
 }
 
 static bool are_up(void) {
@@ -279,7 +279,7 @@ static bool are_up(void) {
 
 static bool take_word(const char *word) {
     static const struct { const char *name; unsigned *value; } known[] = {
-        {"rate", &words.rate},     {"burst", &words.burst}, {"octets", &words.octets}, {"seconds", &words.seconds},
+        {"rate", &words.rate},     {"each", &words.each},   {"burst", &words.burst}, {"octets", &words.octets}, {"seconds", &words.seconds},
         {"settle", &words.settle}, {"loss", &words.loss},   {"cut", &words.cut},       {"seed", &words.seed},
         {"t200", &words.t200}};
     const size_t length = strcspn(word, "=");
@@ -301,7 +301,7 @@ static bool take_words(int count, char **word) {
     for (int i = 5; i < count; i++)
         if (!take_word(word[i]))
             return false;
-    return words.count <= MOST && words.octets <= LAPD_MOST_OCTETS;
+    return words.count <= MOST && words.each > 0 && words.octets <= LAPD_MOST_OCTETS;
 }
 
 static bool start_cards(void) {

@@ -1,18 +1,21 @@
 """Slow servers, dead lines and bursts: what waits is limited, and lines that have nothing to do with it go on."""
 import signal
+import struct
 import time
 
 import iua
 from checks import Lateness, check, each, say
-from iua import Association, data, link
+from iua import Association, data, link, message, parameter
 from judge import judged as verdict_of, rows_of
 from judged import Process
-from peer import RNR, Peer
+from peer import RNR, RR, UI, Peer
 from program import Ends, Gateway, group, server
 from server import numbered
 
 HIGH_OCTETS, FULL_OCTETS, HOLD_SECONDS, QUEUED = 65536, 1 << 20, 1.0, 64
 SLACK = 16384  # what was on its way as a limit was reached
+MOST_ASSOCIATION, MOST_HELD, MOST_BELOW = 1 << 20, 512 << 10, 48 << 20
+ENOUGH = 20  # lines whose links were released
 
 
 def slow_server(place):
@@ -51,9 +54,11 @@ def stuck_server(place):
             own.begin()
             own.answers = False
             peer.establish()
-            begun = time.monotonic()
-            check("who answers no heartbeat is ended", own.has_ended(4.0), "it is not")
-            check("within two seconds", time.monotonic() - begun < 2.5, time.monotonic() - begun)
+            with Lateness() as late:
+                begun = time.monotonic()
+                check("who answers no heartbeat is ended", own.has_ended(4.0), "it is not")
+                seconds = time.monotonic() - begun
+            check("within two seconds", seconds < 2.5 + 5 * late.seconds, (seconds, late.seconds))
             with Association(gateway.iua) as other:
                 other.begin()
                 check("the next is told of the link", other.want("establish-indication") is not None, "")
@@ -142,6 +147,99 @@ def flood(place):
     check("a flood: the gateway ends well", gateway.statuses == [0], gateway.statuses)
 
 
+def probe(line, own, peer, count):
+    """A message each way on a link that has nothing to do with what else happens; how many seconds both took."""
+    begun = time.monotonic()
+    peer.send(b"up %d" % count)
+    came = own.want("data-indication", timeout=8.0)
+    own.send("data-request", link(line), data(b"down %d" % count))
+    frame = peer.want("I")
+    peer.vr[0, 0] = (count + 1) % 128
+    peer.supervise(RR)
+    good = came is not None and frame is not None and (came.data, frame.data) == (b"up %d" % count, b"down %d" % count)
+    return time.monotonic() - begun if good else float("inf")
+
+
+def lines_of(first, last):
+    return parameter(iua.RANGE, struct.pack(">II", first, last))
+
+
+def silent_server(place):
+    """A server's process reads nothing, and unit data keep coming, which no link holds back: at 1 MB its association ends. What waits
+    for the next is limited, too. A line of another server goes on."""
+    folder, sent = place.folder("limits-silent"), 6000
+    with Gateway(place.program, folder, group("all", 0, 2, "primary", establish="no"), server("loud", 0, 0), server("calm", 1, 1),
+                 beat=60000) as gateway:
+        with Association(gateway.iua) as silent, Association(gateway.iua) as own, Peer(gateway.lines, 0) as loud, \
+                Peer(gateway.lines, 1) as calm:
+            for it, line in ((silent, 0), (own, 1)):
+                it.up()
+                it.activate(iua.OVERRIDE, lines_of(line, line))
+            calm.establish()
+            own.want("establish-indication")
+            most, held, worst = 0, 0, 0.0
+            with Lateness() as late:
+                for number in range(sent):
+                    loud.command(UI, poll=False, data=numbered(1, 0, number, 250))
+                    if number % 100 == 0:
+                        worst = max(worst, probe(1, own, calm, number // 100))
+                        values = gateway.metrics()
+                        most = max(most, values.get('association_octets{association="0"}', 0))
+                        held = max(held, values.get('server_held_octets{server="loud"}', 0))
+            values = gateway.metrics()
+            check("a silent server: its association ends at 1 MB", silent.has_ended() and MOST_ASSOCIATION / 2 < most
+                  < MOST_ASSOCIATION + SLACK, most)
+            check("and it is told why", "does not vouch for what it was sent" in gateway.log, gateway.log[-800:])
+            check("what waits for its next process is limited", MOST_HELD / 2 < held < MOST_HELD + SLACK, held)
+            check("what was given up is counted", values["units_dropped_total"] > sent / 4, values["units_dropped_total"])
+            check("a line of another server waits 1 s at most", worst < HOLD_SECONDS + 5 * late.seconds, (worst, late.seconds))
+            with Association(gateway.iua) as other:
+                other.up()
+                other.activate(iua.OVERRIDE, lines_of(0, 0))
+                found = other.want("unit-indication")
+                check("the next process has what waited", found is not None and found.iid == 0, found)
+
+
+def all_queues(place):
+    """Contents wait in front of thousands of links: at 48 MB in all no more are taken. Links that lose contents are released, which is
+    told, and what is left to 64 MB keeps a line of another server going."""
+    count, teis, each_link = 1000, 4, QUEUED - 1
+    with Gateway(place.program, place.folder("limits-all"), group("many", 0, count, "primary", establish="no", terminals=teis,
+                 teis=f"0-{teis - 1}", t200=600000), group("calm", count, 1, "primary", establish="no"),
+                 server("many", 0, count - 1), server("calm", count, count), beat=60000) as gateway:
+        with Association(gateway.iua) as own, Association(gateway.iua) as other, Peer(gateway.lines, count) as calm:
+            for it, first, last in ((own, 0, count - 1), (other, count, count)):
+                it.up()
+                it.activate(iua.OVERRIDE, lines_of(first, last))
+            calm.establish()
+            other.want("establish-indication")
+            most, worst, released, probes = 0, 0.0, set(), 0
+            with Lateness() as late:
+                for line in range(count):
+                    for tei in range(teis):
+                        own.send("establish-request", link(line, tei))
+                        octets = message("data-request", link(line, tei), data(bytes(260)))
+                        for _ in range(each_link):
+                            own.put(octets)
+                    if line % 10 == 0:
+                        worst = max(worst, probe(count, other, calm, probes))
+                        probes += 1
+                        released |= {it.iid for it in own.quiet(0) if it.name == "release-indication" and it.reason == 0}
+                    if line % 100 == 50:
+                        most = max(most, gateway.metric("queued_octets"))
+                    if len(released) > ENOUGH:
+                        break
+            values = gateway.metrics()
+            most = max(most, values["queued_octets"])
+        check("all queues: contents in front of links have a limit", MOST_BELOW - SLACK < most < MOST_BELOW + 2 * SLACK, most)
+        check("all queues: links that lose contents are released, and told", len(released) > ENOUGH
+              and values["messages_lost_total"] > ENOUGH, (len(released), values["messages_lost_total"]))
+        check("all queues: all associations stay", values["associations"] == 2 and values["takeovers_total"] == 0, values)
+        check("all queues: a line of another server waits 1 s at most", worst < HOLD_SECONDS + 5 * late.seconds,
+              (worst, late.seconds))
+    check("all queues: the gateway ends well", gateway.statuses == [0], gateway.statuses)
+
+
 def quiet_sockets(place):
     """Connections that say nothing, or something else, are no harm."""
     with Gateway(place.program, place.folder("limits-quiet"), group("all", 0, 1, "primary", establish="no"),
@@ -169,5 +267,5 @@ def closed(peer):
 
 
 def limits(place):
-    """A slow server, one that is stuck, a dead line, a burst, a flood: what waits is limited, and others go on within 1 s."""
-    each(place, slow_server, stuck_server, dead_line, burst, flood, quiet_sockets)
+    """Servers that are slow, stuck or silent, a dead line, a burst, a flood: what waits is limited, others go on within 1 s."""
+    each(place, slow_server, stuck_server, silent_server, dead_line, burst, flood, all_queues, quiet_sockets)

@@ -14,43 +14,56 @@ from judged import Process
 from peer import Peer
 from program import ROOT, Ends, Gateway, group, section, server
 
+RESTARTS, MOST_RESTART = 2, 0.150
 GSMTAP_HEAD, GSMTAP_E1T1, GSMTAP_LAPD = 16, 0x13, 1
 
 
 def restart(place):
     """SIGTERM and a start, under traffic both ways: no link goes down, nothing is lost, servers are told only the difference."""
     for lines, rate in ((64, 20), *[(1000, 2)] * place.is_long):
-        folder = place.folder(f"operation-restart-{lines}")
-        with Gateway(place.program, folder, group("all", 0, lines, "primary"), server("all", 0, lines - 1)) as gateway:
-            own = Process(gateway, folder, 1, "active", rate=rate, lines=lines, octets=60,
-                          until=time.monotonic() + 8 + lines // 250)
-            own.wait_for("active")
-            ends = Ends(place.compiled("ends"), gateway.lines, 0, lines, "primary", rate=rate, octets=60, seconds=5 + lines // 250,
-                        settle=5,
-                        record=f"{folder}/record-ends").up()
-            time.sleep(2)
-            began = time.monotonic()
-            status = gateway.stop()
-            ended = time.monotonic()
-            gateway.start()
-            ready = time.monotonic()
-            counts = ends.stop(sign=None)
-            own.end(signal.SIGTERM)
-        verdict = verdict_of(rows_of(f"{folder}/record-ends"), [own.rows])
-        rows = own.rows
-        again = [at for at, row in enumerate(rows) if row.event == "active" and row.moment > began * 1e6]
-        check(f"a restart at {lines} lines: the program ends well", status == 0 and gateway.statuses[0] == 0, gateway.statuses)
-        check(f"a restart at {lines} lines: nothing is lost at the lines", not verdict.faults and counts["released"] == 0 and
-              counts["established"] == lines and not any(it[0] == "missing" for it in verdict.faults), f"{verdict}\n{counts}")
-        check(f"a restart at {lines} lines: the server is back", again, gateway.log[-800:])
-        joined = rows[again[0]].moment / 1e6 - ready if again else 99
-        check(f"a restart at {lines} lines: the server joins anew within 1.5 s", joined < 1.5, joined)
-        over = next(row.moment for row in rows_of(f"{folder}/record-ends") if row.event == "over")
-        told = [row for row in rows[again[0] if again else 0:] if row.event in ("up", "down") and row.moment < over]
-        check(f"a restart at {lines} lines: the server is told only the difference", not told, told[:5])
-        say(f"operation: a restart of {lines} lines: {(ended - began) * 1000:.0f} ms to its end, "
-            f"{(ready - ended) * 1000:.0f} ms to its start, {max(0, joined) * 1000:.0f} ms until the server is back; "
-            f"{verdict.counts['missing, told']} messages of the server are told lost")
+        restarted(place, lines, rate)
+
+
+def restarts(place):
+    """A restart of 1,000 lines takes less than 150 ms where time is counted in instructions. It needs --sctp."""
+    seconds = [restarted(place, 1000, 1) for _ in range(RESTARTS)]
+    check(f"a restart of 1000 lines: within {MOST_RESTART} s", min(seconds) < MOST_RESTART, seconds)
+
+
+def restarted(place, lines, rate):
+    """A restart: how many seconds it took from SIGTERM until the program was ready again."""
+    folder = place.folder(f"operation-restart-{lines}")
+    with Gateway(place.program, folder, group("all", 0, lines, "primary"), server("all", 0, lines - 1)) as gateway:
+        own = Process(gateway, folder, 1, "active", rate=rate, lines=lines, octets=60,
+                      until=time.monotonic() + 8 + lines // 250)
+        own.wait_for("active")
+        ends = Ends(place.compiled("ends"), gateway.lines, 0, lines, "primary", rate=rate, octets=60, seconds=5 + lines // 250,
+                    settle=5,
+                    record=f"{folder}/record-ends").up()
+        time.sleep(2)
+        began = time.monotonic()
+        status = gateway.stop()
+        ended = time.monotonic()
+        gateway.start()
+        ready = time.monotonic()
+        counts = ends.stop(sign=None)
+        own.end(signal.SIGTERM)
+    verdict = verdict_of(rows_of(f"{folder}/record-ends"), [own.rows])
+    rows = own.rows
+    again = [at for at, row in enumerate(rows) if row.event == "active" and row.moment > began * 1e6]
+    check(f"a restart at {lines} lines: the program ends well", status == 0 and gateway.statuses[0] == 0, gateway.statuses)
+    check(f"a restart at {lines} lines: nothing is lost at the lines", not verdict.faults and counts["released"] == 0 and
+          counts["established"] == lines and not any(it[0] == "missing" for it in verdict.faults), f"{verdict}\n{counts}")
+    check(f"a restart at {lines} lines: the server is back", again, gateway.log[-800:])
+    joined = rows[again[0]].moment / 1e6 - ready if again else 99
+    check(f"a restart at {lines} lines: the server joins anew within 1.5 s", joined < 1.5, joined)
+    over = next(row.moment for row in rows_of(f"{folder}/record-ends") if row.event == "over")
+    told = [row for row in rows[again[0] if again else 0:] if row.event in ("up", "down") and row.moment < over]
+    check(f"a restart at {lines} lines: the server is told only the difference", not told, told[:5])
+    say(f"operation: a restart of {lines} lines: {(ended - began) * 1000:.0f} ms to its end, "
+        f"{(ready - ended) * 1000:.0f} ms to its start, {max(0, joined) * 1000:.0f} ms until the server is back; "
+        f"{verdict.counts['missing, told']} messages of the server are told lost")
+    return ready - began
 
 
 def other_lines(place):

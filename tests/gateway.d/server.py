@@ -1,10 +1,10 @@
 """A process of a server, for the judge: it takes numbered messages and sends its own, and writes down what came and went.
 
-    server.py WHERE RECORD SOURCE active|standby [rate=N] [lines=N] [octets=N] [until=N] [nap=MS] [mode=N]
+    server.py WHERE RECORD SOURCE active|standby [rate=N] [each=N] [lines=N] [octets=N] [until=N] [nap=MS] [mode=N]
 
 SOURCE is its number in the messages that it sends, from 1 on. An active process becomes active as it joins; a standby as the
 server is pending, or if it stays inactive. It joins again if the association ends. As it becomes active it asks for the TEIs of all
-lines, and for their links: what the server was told before is not told again. It sends at a rate on each link that is up, until a
+lines, and for their links: what the server was told before is not told again. It sends at a rate on each link that is up, `each` messages at a time, until a
 moment of the monotonic clock, or until there is a file `quiet` beside RECORD. It naps after each message that came.
 
 Each line of RECORD is `MOMENT EVENT LINE SOURCE NUMBER OCTETS`, as ends.c writes them, and stands there before the next thing
@@ -41,7 +41,7 @@ def read_numbered(octets):
 class Process:
     def __init__(self, where, record, source, role, **words):
         self.where, self.source, self.role = where, int(source), role
-        self.words = {"rate": 0, "lines": 0, "octets": NUMBERED.size, "until": 0, "nap": 0, "mode": iua.OVERRIDE,
+        self.words = {"rate": 0, "each": 1, "lines": 0, "octets": NUMBERED.size, "until": 0, "nap": 0, "mode": iua.OVERRIDE,
                       **{name: float(value) for name, value in words.items()}}
         self.quiet = f"{os.path.dirname(record)}/quiet"
         self.record = os.open(record, os.O_WRONLY | os.O_CREAT | os.O_APPEND, 0o644)
@@ -111,12 +111,15 @@ class Process:
         if not self.words["rate"] or now >= self.words["until"] or now < self.next or os.path.exists(self.quiet):
             return
         self.next = max(self.next + 1 / self.words["rate"], now - 0.5)
-        for line, tei in [*self.up.items()]:
-            number = self.sent.get(line, 0) + 1
-            octets = self.chance.randint(NUMBERED.size, max(NUMBERED.size, int(self.words["octets"])))
-            self.note("sent", line, self.source, number, octets)
-            self.sent[line] = number
-            self.own.send("data-request", iua.link(line, tei), iua.data(numbered(self.source, line, number, octets)))
+        for line, tei in [*self.up.items()] * int(self.words["each"]):
+            self.send_one(line, tei)
+
+    def send_one(self, line, tei):
+        number = self.sent.get(line, 0) + 1
+        octets = self.chance.randint(NUMBERED.size, max(NUMBERED.size, int(self.words["octets"])))
+        self.note("sent", line, self.source, number, octets)
+        self.sent[line] = number
+        self.own.send("data-request", iua.link(line, tei), iua.data(numbered(self.source, line, number, octets)))
 
     def run(self):
         while True:

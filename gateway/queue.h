@@ -11,7 +11,7 @@
 
 enum {
     MOST_OCTETS_OF_QUEUES = 64 << 20,
-    MOST_OCTETS_BELOW = 48 << 20 /* with so many in all queues, no more contents wait in front of links: the rest is for processes */
+    MOST_OCTETS_BELOW = 48 << 20 /* with so many in all, none is taken in front of a link: the rest is for processes */
 };
 
 typedef struct queued queued;

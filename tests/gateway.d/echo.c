@@ -3,9 +3,9 @@
  *
  *     echo LINES RATE SECONDS EACH [acknowledged]
  *
- * A child sends packets at a rate on each line, EACH at once. The echo hands each to the association with the number of its line; the child
- * sends it back there, and the echo hands it to the line. If packets are acknowledged, as LAPD does it, four octets go the other way
- * on the line for each, which the other end drops. It prints how many messages went through, both ways, and the
+ * A child sends packets at a rate on each line, EACH at once. The echo hands each to the association with the number of its line;
+ * the child sends it back there, and the echo hands it to the line. If packets are acknowledged, as LAPD does it, four octets go
+ * the other way on the line for each, which the other end drops. It prints how many messages went through, both ways, and the
  * microseconds of processor that the echo took for each.
  */
 #define _GNU_SOURCE

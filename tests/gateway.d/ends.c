@@ -5,8 +5,8 @@
  *     ends PATH FIRST COUNT basic|primary [NAME=VALUE..]
  *
  * A message of Q.931 is answered as q931.h has it, and another comes back as it is. With `rate` or `burst` each line sends
- * numbered messages by itself, `each` at a time, and answers none (numbered.h). What was sent, what came, and what a link told is written to the
- * file `record`. It says `up` when all links are up for the first time, and at its end what it counted. SIGUSR1 ends its messages.
+ * numbered messages by itself, `each` at a time, and answers none (numbered.h). What was sent, what came, and what a link told is
+ * written to the file `record`. It says `up` when all links are up first, and at its end what it counted; SIGUSR1 ends messages.
  */
 #define _GNU_SOURCE
 
@@ -279,9 +279,9 @@ static bool are_up(void) {
 
 static bool take_word(const char *word) {
     static const struct { const char *name; unsigned *value; } known[] = {
-        {"rate", &words.rate},     {"each", &words.each},   {"burst", &words.burst}, {"octets", &words.octets}, {"seconds", &words.seconds},
+        {"rate", &words.rate},     {"burst", &words.burst}, {"octets", &words.octets}, {"seconds", &words.seconds},
         {"settle", &words.settle}, {"loss", &words.loss},   {"cut", &words.cut},       {"seed", &words.seed},
-        {"t200", &words.t200}};
+        {"t200", &words.t200},     {"each", &words.each}};
     const size_t length = strcspn(word, "=");
     if (strncmp(word, "record=", length + 1) == 0)
         return words.record = word + length + 1, true;

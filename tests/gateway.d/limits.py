@@ -165,8 +165,8 @@ def lines_of(first, last):
 
 
 def silent_server(place):
-    """A server's process reads nothing, and unit data keep coming, which no link holds back: at 1 MB its association ends. What waits
-    for the next is limited, too. A line of another server goes on."""
+    """A server's process reads nothing, and unit data keep coming, which no link holds back: at 1 MB its association ends. What
+    waits for the next is limited, too. A line of another server goes on."""
     folder, sent = place.folder("limits-silent"), 6000
     with Gateway(place.program, folder, group("all", 0, 2, "primary", establish="no"), server("loud", 0, 0), server("calm", 1, 1),
                  beat=60000) as gateway:
@@ -201,8 +201,8 @@ def silent_server(place):
 
 
 def all_queues(place):
-    """Contents wait in front of thousands of links: at 48 MB in all no more are taken. Links that lose contents are released, which is
-    told, and what is left to 64 MB keeps a line of another server going."""
+    """Contents wait in front of thousands of links: at 48 MB in all no more are taken. Links that lose contents are released, which
+    is told, and what is left to 64 MB keeps a line of another server going."""
     count, teis, each_link = 1000, 4, QUEUED - 1
     with Gateway(place.program, place.folder("limits-all"), group("many", 0, count, "primary", establish="no", terminals=teis,
                  teis=f"0-{teis - 1}", t200=600000), group("calm", count, 1, "primary", establish="no"),

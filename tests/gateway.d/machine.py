@@ -22,7 +22,7 @@ MODULES = ("crc32c_generic", "libcrc32c", "virtio", "virtio_ring", "virtio_pci_m
            "9pnet",
            "9pnet_virtio", "fscache", "netfs", "9p", "overlay", "udp_tunnel", "ip6_udp_tunnel", "sctp", "veth")
 NEEDED = {"9p", "overlay", "sctp"}
-SHORT, LONG = ("sctp",), ("sctp", "errors", "states", "messages", "takeover", "calls", "restarts")
+SHORT, LONG = ("sctp",), ("sctp", "errors", "states", "messages", "takeover", "calls", "scale", "restarts")
 MOST_SECONDS, LONG_SECONDS = 280, 3000
 
 

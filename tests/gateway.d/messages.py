@@ -238,7 +238,8 @@ def messages(place):
     sections = [group("basic", 0, 2, "basic"), group("primary", 100, 1, "primary", establish="no"),
                 group("quick", 101, 1, "primary", establish="no", t200=200, n200=2),
                 group("more", 102, 1, "primary", establish="no"), group("away", 103, 1, "primary", establish="no"),
-                group("gone", 104, 2, "primary", establish="no", t200=200, n200=2), group("sapi", 300, 1, "primary", establish="no", sapi=12),
+                group("gone", 104, 2, "primary", establish="no", t200=200, n200=2),
+                group("sapi", 300, 1, "primary", establish="no", sapi=12),
                 group("user", 400, 1, "primary", side="user", establish="no"),
                 group("terminal", 500, 1, "basic", side="terminal"), group("by-hand", 600, 1, "primary"), server("all", 0, 999)]
     with Gateway(place.program, place.folder("messages"), *sections, beat=10000) as gateway:

@@ -1,11 +1,12 @@
 """A process of a server, for the judge: it takes numbered messages and sends its own, and writes down what came and went.
 
-    server.py WHERE RECORD SOURCE active|standby [rate=N] [each=N] [lines=N] [octets=N] [until=N] [nap=MS] [mode=N]
+    server.py WHERE[,WHERE..] RECORD SOURCE active|standby [rate=N] [each=N] [lines=N] [octets=N] [until=N] [nap=MS] [mode=N]
 
 SOURCE is its number in the messages that it sends, from 1 on. An active process becomes active as it joins; a standby as the
 server is pending, or if it stays inactive. It joins again if the association ends. As it becomes active it asks for the TEIs of all
-lines, and for their links: what the server was told before is not told again. It sends at a rate on each link that is up, `each` messages at a time, until a
-moment of the monotonic clock, or until there is a file `quiet` beside RECORD. It naps after each message that came.
+lines, and for their links: what the server was told before is not told again. It sends at a rate on each link that is up, `each`
+messages at a time, until a moment of the monotonic clock, or until there is a file `quiet` beside RECORD. It naps after each
+message that came. With several gateways RECORD-0 is of the first, and each has a source of its own, from SOURCE on.
 
 Each line of RECORD is `MOMENT EVENT LINE SOURCE NUMBER OCTETS`, as ends.c writes them, and stands there before the next thing
 happens, so that a process that is killed has told all. It ends at SIGTERM."""
@@ -14,6 +15,7 @@ import random
 import signal
 import struct
 import sys
+import threading
 import time
 
 sys.dont_write_bytecode = True
@@ -144,13 +146,20 @@ class Process:
 
 def main():
     words = dict(it.split("=") for it in sys.argv[5:])
-    own = Process(*sys.argv[1:5], **words)
+    where, record, source, role = sys.argv[1:5]
+    if "," in where:
+        all_of_them = [Process(it, f"{record}-{at}", int(source) + at, role, **words) for at, it in enumerate(where.split(","))]
+    else:
+        all_of_them = [Process(where, record, source, role, **words)]
 
     def over(*_):
-        own.note("stopped")
+        for it in all_of_them:
+            it.note("stopped")
         os._exit(0)
     signal.signal(signal.SIGTERM, over)
-    own.run()
+    for it in all_of_them[1:]:
+        threading.Thread(target=it.run, daemon=True).start()
+    all_of_them[0].run()
 
 
 if __name__ == "__main__":

@@ -466,8 +466,10 @@ def _turned() -> bytes:
 
 @dataclasses.dataclass(frozen=True)
 class Config:
-    """How large a card is, and the limits of its lines and links, as lapd.h says at lapd_config, in its order."""
+    """How large a card is, and the limits of its lines and links, as lapd.h says at lapd_config, in its order. A terminal's
+    seed is at random, as of random.randrange(65536)."""
 
+    # tools/names: config
     lines: int
     terminals: int
     k: int
@@ -479,9 +481,10 @@ class Config:
     n201: int
     n200: int
     side: Side = Side.NETWORK
-    seed: int = 0  # of a terminal: its first reference number, 0 to 65535, at random, as of random.randrange(65536)
-    sapi: int = 0  # of the second service: 1 to 62; 0 means 16
-    reading: Reading = Reading.PROFILE  # which rows hold where readers of the standard differ
+    seed: int = 0
+    sapi: int = 0
+    reading: Reading = Reading.PROFILE
+    # tools/names: end
 
     def _raw(self) -> _Config:
         """A number that no field of the C struct holds is told as the largest, which is in no range, except of the seed: there
@@ -497,10 +500,12 @@ class Config:
 
 
 # One line, as the network's side; as lapd.h says at LAPD_BASIC_ACCESS. Others are dataclasses.replace(BASIC_ACCESS, lines=4, ..).
+# tools/names: usual_configs
 BASIC_ACCESS = Config(lines=1, terminals=8, k=1, k16=3, queue=8, unit_queue=4, control=4, slots=132, n201=260, n200=3,
                       reading=Reading.ANNEX_B)
 PRIMARY_RATE = Config(lines=1, terminals=1, k=7, k16=7, queue=8, unit_queue=4, control=4, slots=20, n201=260, n200=3,
                       reading=Reading.ANNEX_B)
+# tools/names: end
 
 
 class Note(NamedTuple):
@@ -589,11 +594,13 @@ class Room(NamedTuple):
 class LinkCounters(NamedTuple):
     """What was counted of a link; each number stays at 65535."""
 
+    # tools/names: counted
     sent_again: int
     t200_expired: int
     rejects_sent: int
     rejects_received: int
     established: int
+    # tools/names: end
 
 
 class Head(NamedTuple):
@@ -810,7 +817,7 @@ class AnyCard(_Owner):
         """What was counted of a link since its TEI came to the line, or it was given up by `deactivate` or `line_down`."""
         of = _LinkCounters()
         _call("lapd_link_counters", self._at, line, *_link(service, tei), ctypes.byref(of))
-        return LinkCounters(of.sent_again, of.t200_expired, of.rejects_sent, of.rejects_received, of.established)
+        return LinkCounters(*(getattr(of, it) for it in LinkCounters._fields))
 
     def _number(self, name: str) -> int:
         number = ctypes.c_uint32()

@@ -21,17 +21,24 @@ static machine *new_machine(u64 heap, u64 image) {
 
 /* The first field that is out of range, as a start's status: what is told where there is no memory to ask a machine. */
 static u32 fault_of(const lapd_config *config) {
-    u32 least = config->k > config->k16 ? config->k : config->k16;
     const struct {
         u32 value, least, most, status;
     } fields[] = {
-        {config->lines, 1, 64, LAPD_BAD_LINES},           {config->terminals, 1, 8, LAPD_BAD_TERMINALS},
-        {config->k, 1, 127, LAPD_BAD_K},                  {config->k16, 1, 127, LAPD_BAD_K16},
-        {config->queue, least, 127, LAPD_BAD_QUEUE},      {config->unit_queue, 1, 16, LAPD_BAD_UNIT_QUEUE},
-        {config->control, 2, 16, LAPD_BAD_CONTROL},       {config->slots, 1, 8192, LAPD_BAD_SLOTS},
-        {config->n201, 8, LAPD_MOST_OCTETS, LAPD_BAD_N201}, {config->n200, 0, 10, LAPD_BAD_N200},
-        {config->sapi, 0, 62, LAPD_BAD_SAPI},             {config->side, 0, LAPD_TERMINAL, LAPD_BAD_SIDE},
+        /* tools/names: ranges */
+        {config->lines, 1, 64, LAPD_BAD_LINES},
+        {config->terminals, 1, 8, LAPD_BAD_TERMINALS},
+        {config->k, 1, 127, LAPD_BAD_K},
+        {config->k16, 1, 127, LAPD_BAD_K16},
+        {config->queue, config->k > config->k16 ? config->k : config->k16, 127, LAPD_BAD_QUEUE},
+        {config->unit_queue, 1, 16, LAPD_BAD_UNIT_QUEUE},
+        {config->control, 2, 16, LAPD_BAD_CONTROL},
+        {config->slots, 1, 8192, LAPD_BAD_SLOTS},
+        {config->n201, 8, 260, LAPD_BAD_N201},
+        {config->n200, 0, 10, LAPD_BAD_N200},
+        {config->sapi, 0, 62, LAPD_BAD_SAPI},
+        {config->side, 0, LAPD_TERMINAL, LAPD_BAD_SIDE},
         {config->reading, 0, LAPD_ANNEX_B, LAPD_BAD_READING},
+        /* tools/names: end */
     };
     for (size_t i = 0; i < sizeof fields / sizeof *fields; i++)
         if (fields[i].value < fields[i].least || fields[i].value > fields[i].most)
@@ -42,12 +49,16 @@ static u32 fault_of(const lapd_config *config) {
     return LAPD_OK;
 }
 
+/* tools/names: image_octets */
+enum { BEHIND_NUMBERS = 20, IMAGE_LINK = 19 };
+/* tools/names: end */
+
 /* So many octets the image of a card of this configuration has at most, and that of a clock; it is in range. */
 static u32 most_of_card(const lapd_config *config) {
     u32 links = 2u * config->terminals, moments = 24 + config->lines * 8u * (2 * links + 1);
     u32 teis = config->side == LAPD_TERMINAL ? 7 + 5 * (config->terminals + 1u) : 39;
-    u32 line = config->terminals + teis + 1 + config->unit_queue + 1 + links * (19u + 3u * config->control) + 8 * LAPD_COUNTERS + 2;
-    return 22 + config->lines * line + config->slots * (2u + config->n201) + moments;
+    u32 line = config->terminals + teis + 1 + config->unit_queue + 1 + links * (IMAGE_LINK + 3u * config->control) + 8 * LAPD_COUNTERS + 2;
+    return BEHIND_NUMBERS + 2 + config->lines * line + config->slots * (2u + config->n201) + moments;
 }
 
 static u32 most_of_clock(const lapd_config *config) {
@@ -211,14 +222,25 @@ static uint32_t restore(bool *started, void **at, const uint8_t *image, size_t l
 /* How large an image says that its card is: all by which a heap's size is told. The machine reads it once more, and all else.
  * Whether these are the first octets of an image. */
 static bool sizes_of(const uint8_t *image, size_t length, lapd_config *config) {
-    enum { FLAGS = 6, SIZES = 7, SLOTS = 16, N201 = 18, BEHIND_SIZES = 20 };
-    if (length < BEHIND_SIZES)
+    enum { FLAGS = 6 };
+    if (length < BEHIND_NUMBERS)
         return false;
-    const uint8_t *size = image + SIZES;
-    const lapd_config it = {.lines = size[0], .terminals = size[1], .k = size[2], .k16 = size[3], .queue = size[4], .unit_queue = size[5],
-                            .control = size[6], .n200 = size[7], .sapi = size[8], .slots = (uint16_t)(image[SLOTS] | image[SLOTS + 1] << 8),
-                            .n201 = (uint16_t)(image[N201] | image[N201 + 1] << 8),
-                            .side = (image[FLAGS] & 3) == 3 ? LAPD_TERMINAL : LAPD_NETWORK};
+    const lapd_config it = {
+        /* tools/names: image_numbers */
+        .lines = image[7],
+        .terminals = image[8],
+        .k = image[9],
+        .k16 = image[10],
+        .queue = image[11],
+        .unit_queue = image[12],
+        .control = image[13],
+        .n200 = image[14],
+        .sapi = image[15],
+        .slots = (uint16_t)(image[16] | image[17] << 8),
+        .n201 = (uint16_t)(image[18] | image[19] << 8),
+        /* tools/names: end */
+        .side = (image[FLAGS] & 3) == 3 ? LAPD_TERMINAL : LAPD_NETWORK,
+    };
     *config = it;
     return fault_of(config) == LAPD_OK;
 }

@@ -1,6 +1,6 @@
 /*
  * layout.c: where the fields of lapd.h's structs lie. The library's structs are #[repr(C)] with the same fields in the
- * same order (crates/lapd_c); these are the numbers that such a layout has on x86-64.
+ * same order (crates/lapd_c); these are the numbers that such a layout has on x86-64, as tools/names counts them.
  */
 #include <stddef.h>
 
@@ -9,6 +9,7 @@
 #define AT(type, field, place) _Static_assert(offsetof(type, field) == (place), #type "." #field)
 #define OCTETS(type, size) _Static_assert(sizeof(type) == (size), #type)
 
+/* tools/names: layout */
 OCTETS(lapd_config, 64);
 AT(lapd_config, lines, 0);
 AT(lapd_config, terminals, 2);
@@ -99,3 +100,4 @@ OCTETS(lapd_due, 16);
 AT(lapd_due, line, 0);
 AT(lapd_due, timer, 4);
 AT(lapd_due, reserved, 7);
+/* tools/names: end */

@@ -109,6 +109,12 @@ def enums() -> List[Dict[str, int]]:
     return [{name: int(number) for name, number in re.findall(r"\b(LAPD_\w+) = (\d+)\b", it)} for it in bodies]
 
 
+def usual(name: str) -> List[int]:
+    """The numbers of an initialiser of the header, in order, without the reserved places."""
+    words = re.search(rf"^#define LAPD_{name} \{{ (.*), \{{ 0 \}} \}}$", text(), re.M)
+    return [numbers()[it] if it in numbers() else int(it) for it in words[1].split(", ")] if words else []
+
+
 def laid_out(name: str, body: str, known: Dict[str, Struct], counts: Dict[str, int]) -> Struct:
     fields, at, alignment = [], 0, 1
     for kind, field, count in re.findall(r"(\w+|void \*) ?\b(\w+)(?:\[(\w+)\])?;", body):

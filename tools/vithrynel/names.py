@@ -1,25 +1,28 @@
-"""The names of lapd.h in the bindings of other languages: what stands between two marks is written from the header. A function a
-step:
+"""The names of lapd.h, and what table.py says of them, in files of other languages: what stands between two marks is written. A
+function a step:
 
     numbers_after   the numbers that a mark calls for: an enum of the header by its first name, or one number alone
     fields          the fields of a struct, as ctypes has them
+    PARTS           what else a mark calls for
     written         a file's text, with what stands between its marks written anew
 
-A mark is a comment, `tools/names: NAME` with a name of the header, and the end is `tools/names: end`.
+A mark is a comment, `tools/names: NAME` with a name of the header or of PARTS, and the end is `tools/names: end`.
 """
 import re
-from typing import Dict
+from typing import Callable, Dict, List, Tuple
 
-from .checked import wrapped
-from .header import enums, numbers, structs
+from .checked import tag, wrapped
+from .header import enums, numbers, structs, usual
+from .table import ENUMS, FIELDS, behind_numbers, card_line, counted, endings, in_order, least_numbers, link_octets
 
 # The files with such marks, and how a number stands in each.
-PATHS = {"bindings/python/lapd.py": "{own} = {number}", "include/lapd.hpp": "{own} = {name},"}
+PATHS = {"bindings/python/lapd.py": "{own} = {number}", "include/lapd.hpp": "{own} = {name},", "c/portable/card.c": "", "tests/c/words.c": "",
+         "tests/c/layout.c": ""}
 # What is a word of C++ has another name there.
 CPP_NAMES = {"short": "too_short"}
 # What ctypes calls a plain type.
 CTYPES = {"bool": "c_bool", "uint8_t": "c_uint8", "uint16_t": "c_uint16", "uint32_t": "c_uint32", "uint64_t": "c_uint64", "void *": "c_void_p"}
-MARKED = re.compile(r"^( *)(#|//) tools/names: (\w+)\n(.*?)^ *\2 tools/names: end\n", re.MULTILINE | re.DOTALL)
+MARKED = re.compile(r"^( *)(#|//|/\*) tools/names: (\w+)((?: \*/)?)\n(.*?)^ *\2 tools/names: end\4\n", re.MULTILINE | re.DOTALL)
 
 
 def numbers_after(first: str) -> Dict[str, int]:
@@ -37,21 +40,114 @@ def fields(name: str) -> str:
     return wrapped("_fields_ = [", rows, "]")
 
 
+# ---- A configuration -------------------------------------------------------------------------------------------------------
+
+def config_names() -> List[str]:
+    return [it.name for it in structs()["lapd_config"].fields if it.name != "reserved"]
+
+
+def value(field: str, number: int) -> str:
+    """The value of a field in lapd.py: of an enum its name."""
+    own = numbers_after(ENUMS[field]) if field in ENUMS else {}
+    return next((f"{field.capitalize()}.{name[len('LAPD_'):]}" for name, it in own.items() if it == number), str(number))
+
+
+def config_of_python() -> str:
+    """The fields; each may be left out that no card line has as a number."""
+    asked = {it.name for it in card_line()}
+    return "\n".join(f"{it}: int" if it in asked else f"{it}: {it.capitalize() if it in ENUMS else 'int'} = {value(it, 0)}" for it in config_names())
+
+
+def usual_configs() -> str:
+    asked = {it.name for it in card_line()}
+    rows = [(name, [f"{it}={value(it, number)}" for it, number in zip(config_names(), usual(name)) if number or it in asked])
+            for name in ("BASIC_ACCESS", "PRIMARY_RATE")]
+    return "\n".join(wrapped(f"{name} = Config(", words, ")") for name, words in rows)
+
+
+def ranges() -> str:
+    """As lapd.c tests them: each field, its least and greatest, and the status."""
+    rows = [(it.name, "0" if it.usual else " > ".join(f"config->{one}" for one in it.at_least) or str(it.least), str(it.most)) for it in FIELDS]
+    rows = [(name, f"{least} ? {least.replace(' >', ' :')}" if ">" in least else least, most) for name, least, most in rows]
+    rows += [(it, "0", list(numbers_after(first))[-1]) for it, first in ENUMS.items()]
+    return "\n".join(f"{{config->{name}, {least}, {most}, LAPD_BAD_{name.upper()}}}," for name, least, most in rows)
+
+
+def image_octets() -> str:
+    """How many octets stand before the seed in an image; and how many a link has there, without what waits."""
+    return f"enum {{ BEHIND_NUMBERS = {behind_numbers()}, IMAGE_LINK = {link_octets()} }};"
+
+
+def image_numbers() -> str:
+    """Where the numbers of a configuration stand in an image."""
+    at, rows = 7, []
+    for it in in_order(one.name for one in FIELDS):
+        rows.append(f".{it.name} = image[{at}]," if it.octets == 1 else f".{it.name} = (uint16_t)(image[{at}] | image[{at + 1}] << 8),")
+        at += it.octets
+    return "\n".join(rows)
+
+
+# ---- A card line -------------------------------------------------------------------------------------------------------------
+
+def place(name: str) -> str:
+    return f"offsetof(lapd_config, {name})"
+
+
+def card_line_of_c() -> str:
+    own, ends = [it.name for it in card_line()], endings()
+    most = 2 + len(own) + sum(1 + max(it.names) for it in ends)
+    instead = next(own.index(it.left_out) for it in card_line() if it.left_out)
+    words = [f"{{\"{it.word}\", {it.from_place}, {min(it.names)}, {max(it.names)}, {place(it.field)}, {place(it.number)}, "
+             f"{{{', '.join(it.names.get(count, '0') for count in (0, 1))}}}}}," for it in ends]
+    return "\n".join([f"enum {{ LEAST_NUMBERS = {least_numbers()}, IF_LEFT_OUT = {instead}, MOST_WORDS = {most} }};",
+                      wrapped("static const size_t numbers[] = {", list(map(place, own)), "};"),
+                      "static const ending endings[] = {", *(f"    {it}" for it in words), "};"])
+
+
+# ---- Structs -----------------------------------------------------------------------------------------------------------------
+
+def layout() -> str:
+    """Where each field lies, as layout.c asks a compiler."""
+    rows = []
+    for name, it in structs().items():
+        own = tag(name)
+        rows += [f"OCTETS({own}, {it.octets});", *(f"AT({own}, {one.name}, {one.at});" for one in it.fields)]
+    return "\n".join(rows)
+
+
+PARTS: Dict[Tuple[str, str], Callable[[], str]] = {
+    ("lapd.py", "config"): config_of_python,
+    ("lapd.py", "usual_configs"): usual_configs,
+    ("lapd.py", "counted"): lambda: "\n".join(f"{it}: int" for it in counted()),
+    ("card.c", "ranges"): ranges,
+    ("card.c", "image_octets"): image_octets,
+    ("card.c", "image_numbers"): image_numbers,
+    ("words.c", "card_line"): card_line_of_c,
+    ("layout.c", "layout"): layout,
+}
+
+
 def between(path: str, name: str) -> str:
     """What stands between two marks."""
-    if name in structs():
-        return fields(name)
+    part = PARTS.get((path.split("/")[-1], name))
+    if part or name in structs():
+        return part() if part else fields(name)
     own = {it: it[len("LAPD_"):] for it in numbers_after(name)}
     if path.endswith(".hpp"):
         own = {it: CPP_NAMES.get(word.lower(), word.lower()) for it, word in own.items()}
     return "\n".join(PATHS[path].format(own=own[it], name=it, number=number) for it, number in numbers_after(name).items())
 
 
+def unmarked(text: str) -> str:
+    """A text without marks."""
+    return re.sub(r"^ */\* tools/names: \w+ \*/\n", "", text, flags=re.MULTILINE)
+
+
 def written(path: str, text: str) -> str:
     def anew(found: "re.Match[str]") -> str:
-        indent, sign, name, _ = found.groups()
-        rows = [f"{sign} tools/names: {name}", *between(path, name).split("\n"), f"{sign} tools/names: end"]
-        return "".join(f"{indent}{it}\n" for it in rows)
+        indent, sign, name, end, _ = found.groups()
+        rows = [f"{sign} tools/names: {name}{end}", *between(path, name).split("\n"), f"{sign} tools/names: end{end}"]
+        return "".join(f"{indent}{it}\n" if it else "\n" for it in rows)
 
     marks = text.count(" tools/names: ")
     if marks == 0 or marks != 2 * len(MARKED.findall(text)):

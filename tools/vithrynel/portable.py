@@ -14,6 +14,7 @@ from .checked import tag, tests, wrapped
 from .depth import deepest
 from .header import Field, Function, Parameter, Struct, functions, numbers, structs
 from .machine import AHEAD, WIDEST, asked_for, comment, content
+from .names import unmarked
 from .static_library import NotBuilt
 from .united import PROGRAM_STACK, STACK, United, united
 from .wasm import put
@@ -297,7 +298,7 @@ enum {{ STACK = {PROGRAM_STACK}, DATA = STACK + {made.constants}, PAGES = {made.
 
 
 def portable(made: United, head: str) -> str:
-    movers = marshalling()
+    movers, card = marshalling(), unmarked(content("c/portable/card.c"))
     loads = asked_for(content("c/portable/memory.c"), made.both + made.library + movers)
     return "\n".join([
         head, "/* lapdsim.c includes this file with LAPD_SIMULATOR, and so takes what it has in common with the library. */",
@@ -306,7 +307,7 @@ def portable(made: United, head: str) -> str:
         "/* ---- What wasm2c made of the proved library: what lapdsim.c has, too ---- */\n", made.begin, made.both,
         "#ifndef LAPD_SIMULATOR\n/* ---- And what it has not ---- */\n", made.library,
         f"enum {{ PLACES = DATA + {made.data}, REPORT_OCTETS = {report_octets()}, OTHER_OCTETS = {other_octets()}, RUN = {RUN} }};\n",
-        content("c/portable/handed.c"), movers, content("c/portable/card.c"), *(it.text() for it in calls()), "#endif\n"])
+        content("c/portable/handed.c"), movers, card, *(it.text() for it in calls()), "#endif\n"])
 
 
 WRITTEN = ("lapd.c", "lapd.h", "lapd_checked.h", "lapd_memory.h", "README")

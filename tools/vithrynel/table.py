@@ -42,15 +42,18 @@ FIELDS = [
     Field("n200", 0, 10, 1, "how often a command is repeated (clause 5.9.2)"),
     Field("sapi", 1, 62, 1, "the SAPI of the second service", after="sapi", usual=16),
 ]
-# The other fields name one of an enum; flags of an image say which, and these words of a card line. Of a terminal its seed follows.
+# Other fields name one of an enum, here by its first. Flags of an image say which, and of a card line these words.
+ENUMS = {"side": "LAPD_NETWORK", "reading": "LAPD_PROFILE"}
 SIDE, READING = "user", "annex-b"
 
 
 class Ending(NamedTuple):
-    """A word that may stand at the end of a card line, and what may follow it."""
+    """A word that may stand at the end of a card line."""
     word: str
-    counts: Tuple[int, ...]  # of words that follow it; fewer are tried first
+    names: Dict[int, str]  # the value that it has for its field, by how many words follow it; fewer are tried first
     from_place: int  # it is none before
+    field: str
+    number: str  # the field that a word after it says
 
 
 def card_line() -> List[Field]:
@@ -64,14 +67,16 @@ def least_numbers() -> int:
 
 def endings() -> List[Ending]:
     """In the order in which they stand."""
-    return [Ending(SIDE, (0, 1), least_numbers()), *(Ending(it.after, (1,), 0) for it in FIELDS if it.after), Ending(READING, (0,), 0)]
+    return [Ending(SIDE, {0: "LAPD_USER", 1: "LAPD_TERMINAL"}, least_numbers(), "side", "seed"),
+            *(Ending(it.after, {1: "0"}, 0, it.name, it.name) for it in FIELDS if it.after),
+            Ending(READING, {0: "LAPD_ANNEX_B"}, 0, "reading", "reading")]
 
 
 def taken_apart(words: List[str]) -> Tuple[List[str], Dict[str, List[str]]]:
     """The numbers of a card line's words, however many, and what follows each ending that is there. It is read from its end."""
     found: Dict[str, List[str]] = {}
     for it in reversed(endings()):
-        at = next((len(words) - 1 - count for count in it.counts if words[-1 - count:][:1] == [it.word]), -1)
+        at = next((len(words) - 1 - count for count in it.names if words[-1 - count:][:1] == [it.word]), -1)
         if at >= it.from_place:
             found[it.word], words = words[at + 1:], words[:at]
     return words, found
@@ -82,6 +87,16 @@ def numbers_of(words: List[str], ended: Dict[str, List[str]]) -> Dict[str, int]:
     found = {it.name: int(word) for it, word in zip(card_line(), words)}
     found.update({it.name: found[it.left_out] for it in FIELDS if it.left_out and it.name not in found})
     return {**found, **{it.name: int(ended[it.after][0]) if it.after in ended else it.usual for it in FIELDS if it.after}}
+
+
+def behind_numbers() -> int:
+    """So many octets of an image stand before the seed: seven, and the numbers."""
+    return 7 + sum(it.octets for it in FIELDS)
+
+
+def link_octets() -> int:
+    """So many a link has in an image, without what waits."""
+    return 9 + 2 * len(counted())
 
 
 def in_order(names: Iterable[str]) -> List[Field]:

@@ -2,19 +2,33 @@
 
 import { element } from "./lists.mjs";
 
+// tools/names: card_line
 // name, least, greatest, what it is; the last may be left out
 const NUMBERS = [
-  ["lines", 1, 64, "lines of the card"],
+  ["lines", 1, 64, "the lines of the card"],
   ["terminals", 1, 8, "TEIs on each line"],
   ["K", 1, 127, "the window of call control links (clause 5.9.5)"],
-  ["queue", 1, 127, "contents that wait on each link, sent or unsent: K and K16 at least"],
+  ["queue", 1, 127, "contents that wait on each link, sent or unsent: at least K and K16"],
   ["unit queue", 1, 16, "unit data that wait on each line"],
   ["control", 2, 16, "control frames that wait on each link"],
   ["slots", 1, 8192, "contents that wait on the whole card"],
   ["N201", 8, 260, "octets of an information field at most (clause 5.9.3)"],
   ["N200", 0, 10, "how often a command is repeated (clause 5.9.2)"],
-  ["K16", 1, 127, "the window of links of the second service; where it is left out, it is K"],
+  ["K16", 1, 127, "the window of links of the second service; if it is left out, it is K"],
 ];
+// numbers that stand after a word: the word, and the same
+const AFTER = [
+  ["sapi", "SAPI", 1, 62, "the SAPI of the second service; if it is left out, it is 16"],
+];
+// words that may stand after the numbers, and how many words may follow each
+const ENDINGS = [
+  ["user", [0, 1]],
+  ["sapi", [1]],
+  ["annex-b", [0]],
+];
+const SIDE = "user";
+const READING = "annex-b";
+// tools/names: end
 const KINDS = [
   ["card", "octets"],
   ["frames", "whole frames"],
@@ -22,14 +36,27 @@ const KINDS = [
 const TERMINAL = "terminal";
 const SIDES = [
   ["", "the network's"],
-  ["user", "the user's: a trunk's end"],
+  [SIDE, "the user's: a trunk's end"],
   [TERMINAL, "the user's: a terminal"],
 ];
 const READINGS = [
   ["", "the profile's"],
-  ["annex-b", "annex B's"],
+  [READING, "annex B's"],
 ];
 export const USUAL = "card 1 8 7 8 4 4 64 260 3";
+
+/** The numbers of a card line's words, and what follows each ending that is there. It is read from its end. */
+function takenApart(words) {
+  const found = {};
+  let numbers = words;
+  for (const [word, counts] of [...ENDINGS].reverse()) {
+    const count = counts.find((it) => numbers.at(-1 - it) === word);
+    if (count === undefined) continue;
+    found[word] = numbers.slice(numbers.length - count);
+    numbers = numbers.slice(0, numbers.length - count - 1);
+  }
+  return { numbers, found };
+}
 
 /** The card line of a script: its number and words; null where its first line is none. */
 export function cardLineIn(script) {
@@ -48,6 +75,17 @@ export function cardLineIn(script) {
   return null;
 }
 
+function numberField(name, least, most) {
+  const it = document.createElement("input");
+  Object.assign(it, { type: "number", min: least, max: most, name, inputMode: "numeric" });
+  return it;
+}
+
+/** Shows a number in its field, except while somebody writes there. */
+function showIn(input, word = "") {
+  if (document.activeElement !== input) input.value = /^[0-9]+$/.test(word) ? String(Number(word)) : "";
+}
+
 function choice(name, options) {
   const it = document.createElement("select");
   it.name = name;
@@ -62,20 +100,14 @@ export class Card {
     this.summary = summary;
     this.kind = choice("kind", KINDS);
     this.side = choice("side", SIDES);
-    this.numbers = NUMBERS.map(([name, least, most]) => {
-      const it = document.createElement("input");
-      Object.assign(it, { type: "number", min: least, max: most, name, inputMode: "numeric" });
-      return it;
-    });
-    this.sapi = document.createElement("input");
-    Object.assign(this.sapi, { type: "number", min: 1, max: 62, name: "SAPI", inputMode: "numeric" });
-    this.seed = document.createElement("input");
-    Object.assign(this.seed, { type: "number", min: 0, max: 65535, name: "seed", inputMode: "numeric" });
+    this.numbers = NUMBERS.map(([name, least, most]) => numberField(name, least, most));
+    this.after = AFTER.map(([, name, least, most]) => numberField(name, least, most));
+    this.seed = numberField("seed", 0, 65535);
     this.field("between card and lines", "whether octets or whole frames go", this.kind);
     this.field("side", "whose side of its lines the card is", this.side);
     this.field("seed", "a terminal's first reference number: 0 to 65535 (clause 5.3.2)", this.seed);
     NUMBERS.forEach(([name, least, most, words], at) => this.field(name, `${words}: ${least} to ${most}`, this.numbers[at]));
-    this.field("SAPI", "the SAPI of the second service: 1 to 62; where it is left out, it is 16", this.sapi);
+    AFTER.forEach(([, name, least, most, words], at) => this.field(name, `${words}: ${least} to ${most}`, this.after[at]));
     this.reading = choice("rows", READINGS);
     this.field("rows", "which rows of the tables hold where readers of the standard differ", this.reading);
     form.addEventListener("change", () => onChanged(this.text()));
@@ -94,31 +126,26 @@ export class Card {
     const numbers = this.numbers.map((it) => it.value || "0");
     if (!this.numbers.at(-1).value) numbers.pop();
     const side = this.side.value === TERMINAL ? `user ${this.seed.value || "0"}` : this.side.value;
-    const sapi = this.sapi.value ? `sapi ${this.sapi.value}` : "";
-    return [this.kind.value, ...numbers, side, sapi, this.reading.value].filter((it) => it !== "").join(" ");
+    const after = this.after.map((it, at) => (it.value ? `${AFTER[at][0]} ${it.value}` : ""));
+    return [this.kind.value, ...numbers, side, ...after, this.reading.value].filter((it) => it !== "").join(" ");
   }
 
   /** Shows the card line of a script. */
   show(found) {
     this.form.classList.toggle("is-none", !found);
-    const words = found ? [...found.words] : USUAL.split(" ");
-    this.kind.value = words[0];
-    this.reading.value = words.at(-1) === "annex-b" ? words.pop() : "";
-    const sapi = words.at(-2) === "sapi" ? words.splice(-2)[1] : "";
-    if (document.activeElement !== this.sapi) this.sapi.value = /^[0-9]+$/.test(sapi) ? String(Number(sapi)) : "";
-    const seed = words.at(-2) === "user" && /^[0-9]+$/.test(words.at(-1)) ? words.splice(-1)[0] : "";
-    if (document.activeElement !== this.seed) this.seed.value = seed === "" ? "" : String(Number(seed));
-    const isUser = words.at(-1) === "user";
-    if (seed !== "") this.side.value = TERMINAL;
-    else this.side.value = isUser ? "user" : "";
-    this.seed.parentElement.hidden = seed === "";
-    const numbers = words.slice(1).filter((it) => it !== "user");
-    this.numbers.forEach((it, at) => {
-      if (document.activeElement !== it) it.value = /^[0-9]+$/.test(numbers[at] ?? "") ? String(Number(numbers[at])) : "";
-    });
-    const kind = words[0] === "card" ? "octets" : "whole frames";
-    const side = isUser ? "user" : "network";
-    const who = seed === "" ? `the ${side}'s side` : "a terminal";
-    this.summary.textContent = found ? `for ${kind}, ${who}` : "the script has no card line yet";
+    const [kind, ...words] = found ? found.words : USUAL.split(" ");
+    const { numbers, found: ended } = takenApart(words);
+    this.kind.value = kind;
+    this.reading.value = READING in ended ? READING : "";
+    this.after.forEach((it, at) => showIn(it, ended[AFTER[at][0]]?.[0]));
+    const isUser = SIDE in ended;
+    const [seed] = isUser ? ended[SIDE] : [];
+    showIn(this.seed, seed);
+    this.side.value = seed === undefined ? (isUser ? SIDE : "") : TERMINAL;
+    this.seed.parentElement.hidden = seed === undefined;
+    this.numbers.forEach((it, at) => showIn(it, numbers[at]));
+    const what = kind === "card" ? "octets" : "whole frames";
+    const who = seed === undefined ? `the ${isUser ? "user" : "network"}'s side` : "a terminal";
+    this.summary.textContent = found ? `for ${what}, ${who}` : "the script has no card line yet";
   }
 }

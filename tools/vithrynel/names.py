@@ -4,25 +4,27 @@ function a step:
     numbers_after   the numbers that a mark calls for: an enum of the header by its first name, or one number alone
     fields          the fields of a struct, as ctypes has them
     PARTS           what else a mark calls for
-    written         a file's text, with what stands between its marks written anew
+    ROWS            rows of tables in pages
+    written         a file's text, with what stands between its marks and in these rows written anew
 
 A mark is a comment, `tools/names: NAME` with a name of the header or of PARTS, and the end is `tools/names: end`.
 """
 import re
+import textwrap
 from typing import Callable, Dict, List, Tuple
 
 from .checked import tag, wrapped
 from .header import enums, numbers, structs, usual
-from .table import ENUMS, FIELDS, behind_numbers, card_line, counted, endings, in_order, least_numbers, link_octets
+from .table import ENUMS, FIELDS, READING, SIDE, Field, behind_numbers, card_line, counted, counters, endings, in_order, least_numbers, link_octets
 
 # The files with such marks, and how a number stands in each.
 PATHS = {"bindings/python/lapd.py": "{own} = {number}", "include/lapd.hpp": "{own} = {name},", "c/portable/card.c": "", "tests/c/words.c": "",
-         "tests/c/layout.c": ""}
+         "tests/c/layout.c": "", "web/card.mjs": "", "docs/FORMAT.md": "", "man/lapdsim.5": ""}
 # What is a word of C++ has another name there.
 CPP_NAMES = {"short": "too_short"}
 # What ctypes calls a plain type.
 CTYPES = {"bool": "c_bool", "uint8_t": "c_uint8", "uint16_t": "c_uint16", "uint32_t": "c_uint32", "uint64_t": "c_uint64", "void *": "c_void_p"}
-MARKED = re.compile(r"^( *)(#|//|/\*) tools/names: (\w+)((?: \*/)?)\n(.*?)^ *\2 tools/names: end\4\n", re.MULTILINE | re.DOTALL)
+MARKED = re.compile(r"^( *)(#|//|/\*|<!--|\.\\\x22) tools/names: (\w+)((?: \*/| -->)?)\n(.*?)^ *\2 tools/names: end\4\n", re.MULTILINE | re.DOTALL)
 
 
 def numbers_after(first: str) -> Dict[str, int]:
@@ -104,6 +106,74 @@ def card_line_of_c() -> str:
                       "static const ending endings[] = {", *(f"    {it}" for it in words), "};"])
 
 
+def label(name: str) -> str:
+    """A field's name as the page shows it: letters of the standard are capital ones."""
+    return name.upper() if len(name) == 1 or re.search(r"\d", name) else name.replace("_", " ")
+
+
+def said(it: Field) -> str:
+    """What a field is, to a reader who sees one range of numbers."""
+    more = f": at least {' and '.join(map(str.upper, it.at_least))}" if it.at_least else ""
+    return f"{it.words}{more}" + (f"; if it is left out, it is {it.left_out.upper() or it.usual}" if it.left_out or it.usual else "")
+
+
+def card_line_of_page() -> str:
+    rows = [f'  ["{label(it.name)}", {it.least}, {it.most}, "{said(it)}"],' for it in card_line()]
+    after = [f'  ["{it.after}", "{it.name.upper()}", {it.least}, {it.most}, "{said(it)}"],' for it in FIELDS if it.after]
+    ends = [f'  ["{it.word}", [{", ".join(map(str, it.names))}]],' for it in endings()]
+    return "\n".join(["// name, least, greatest, what it is; the last may be left out", "const NUMBERS = [", *rows, "];",
+                      "// numbers that stand after a word: the word, and the same", "const AFTER = [", *after, "];",
+                      "// words that may stand after the numbers, and how many words may follow each", "const ENDINGS = [", *ends, "];",
+                      f'const SIDE = "{SIDE}";', f'const READING = "{READING}";'])
+
+
+# ---- Pages -------------------------------------------------------------------------------------------------------------------
+
+def ranged(it: Field) -> str:
+    least = f"the greater of {' and '.join(map(str.upper, it.at_least))}," if it.at_least else str(it.least)
+    return f"{least} to {it.most:,}"
+
+
+def without_clause(it: Field) -> str:
+    return re.sub(r" \(clause [\d.]+\)", "", it.words)
+
+
+def first_words() -> str:
+    """What the shortest card line has."""
+    return " ".join(["card", *(it.name.upper() for it in card_line()[:least_numbers()])])
+
+
+def after_words(it: Field) -> str:
+    return f"after these: N, {it.least} to {it.most}, is {without_clause(it)}"
+
+
+def item(name: str, words: str) -> str:
+    """One of a list in a manual."""
+    return "\n".join([f'.It Li "{name}"', *textwrap.wrap(words, 80)])
+
+
+def number_of_page(it: Field) -> str:
+    """In an image: its word, or what follows it."""
+    return f"N of `{it.after}`" if it.after else it.name.upper()
+
+
+def numbers_of_page(octets: int) -> List[str]:
+    return [number_of_page(it) for it in FIELDS if it.octets == octets]
+
+
+def counters_of_page() -> str:
+    return f"|{8 * len(counters())} each|each line's {len(counters())} counters, of eight octets,"
+
+
+# Rows of tables, where no comment can stand: how they begin, and what is written.
+ROWS: Dict[str, List[Tuple[str, Callable[[], str]]]] = {"docs/FORMAT.md": [
+    (r"\|`card [A-Z0-9_ ]+`\|", lambda: f"|`{first_words()}`|"),
+    (r"(?:\|either and `[\w-]+ N`\|.*\n)+", lambda: "".join(
+        f"|either and `{it.after} N`|{after_words(it)}. Without it: {it.usual}|\n" for it in FIELDS if it.after)),
+    (r"\|\d+\|LINES, .*", lambda: f"|{len(numbers_of_page(1))}|{', '.join(numbers_of_page(1))}|"),
+    (r"\|[2, ]+\|[A-Z0-9, ]+; all in", lambda: f"|{', '.join('2' for _ in numbers_of_page(2))}|{', '.join(numbers_of_page(2))}; all in"),
+    (r"\|\d+ each\|each line's \d+ counters, of eight octets,", counters_of_page)]}
+
 # ---- Structs -----------------------------------------------------------------------------------------------------------------
 
 def layout() -> str:
@@ -123,7 +193,13 @@ PARTS: Dict[Tuple[str, str], Callable[[], str]] = {
     ("card.c", "image_octets"): image_octets,
     ("card.c", "image_numbers"): image_numbers,
     ("words.c", "card_line"): card_line_of_c,
+    ("card.mjs", "card_line"): card_line_of_page,
     ("layout.c", "layout"): layout,
+    ("FORMAT.md", "numbers"): lambda: "\n".join(f"- {it.name.upper()}, {ranged(it)}: {without_clause(it)}" for it in card_line()),
+    ("lapdsim.5", "numbers"): lambda: "\n".join(item(it.name.upper(), f"{ranged(it)}: {it.words}") for it in card_line()),
+    ("lapdsim.5", "after"): lambda: "\n".join(
+        f"{item(f'either and {it.after} N', after_words(it) + '.')}\nWithout it: {it.usual}" for it in FIELDS if it.after),
+    ("lapdsim.5", "card_line"): lambda: f'.It Li "{first_words()}"\nstarts the card, and a clock at 0 ms',
 }
 
 
@@ -152,4 +228,9 @@ def written(path: str, text: str) -> str:
     marks = text.count(" tools/names: ")
     if marks == 0 or marks != 2 * len(MARKED.findall(text)):
         raise ValueError(f"{path}: a mark of tools/names without its end, or none")
-    return MARKED.sub(anew, text)
+    text = MARKED.sub(anew, text)
+    for begins, row in ROWS.get(path, []):
+        text, count = re.subn(rf"^{begins}", lambda _, it=row: it(), text, flags=re.MULTILINE)
+        if count != 1:
+            raise ValueError(f"{path}: {count} rows begin as {begins}, not one")
+    return text

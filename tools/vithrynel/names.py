@@ -69,7 +69,7 @@ def usual_configs() -> str:
 
 def ranges() -> str:
     """As lapd.c tests them: each field, its least and greatest, and the status."""
-    rows = [(it.name, "0" if it.usual else " > ".join(f"config->{one}" for one in it.at_least) or str(it.least), str(it.most)) for it in FIELDS]
+    rows = [(it.name, "0" if it.after else " > ".join(f"config->{one}" for one in it.at_least) or str(it.least), str(it.most)) for it in FIELDS]
     rows = [(name, f"{least} ? {least.replace(' >', ' :')}" if ">" in least else least, most) for name, least, most in rows]
     rows += [(it, "0", list(numbers_after(first))[-1]) for it, first in ENUMS.items()]
     return "\n".join(f"{{config->{name}, {least}, {most}, LAPD_BAD_{name.upper()}}}," for name, least, most in rows)
@@ -111,10 +111,15 @@ def label(name: str) -> str:
     return name.upper() if len(name) == 1 or re.search(r"\d", name) else name.replace("_", " ")
 
 
+def left_out(it: Field) -> str:
+    """What it is if a card line does not say it; nothing if each one does."""
+    return it.left_out.upper() or str(it.usual or "")
+
+
 def said(it: Field) -> str:
     """What a field is, to a reader who sees one range of numbers."""
     more = f": at least {' and '.join(map(str.upper, it.at_least))}" if it.at_least else ""
-    return f"{it.words}{more}" + (f"; if it is left out, it is {it.left_out.upper() or it.usual}" if it.left_out or it.usual else "")
+    return f"{it.words}{more}" + (f"; if it is left out, it is {left_out(it)}" if left_out(it) else "")
 
 
 def card_line_of_page() -> str:
@@ -169,7 +174,7 @@ def counters_of_page() -> str:
 ROWS: Dict[str, List[Tuple[str, Callable[[], str]]]] = {"docs/FORMAT.md": [
     (r"\|`card [A-Z0-9_ ]+`\|", lambda: f"|`{first_words()}`|"),
     (r"(?:\|either and `[\w-]+ N`\|.*\n)+", lambda: "".join(
-        f"|either and `{it.after} N`|{after_words(it)}. Without it: {it.usual}|\n" for it in FIELDS if it.after)),
+        f"|either and `{it.after} N`|{after_words(it)}. Without it: {left_out(it)}|\n" for it in FIELDS if it.after)),
     (r"\|\d+\|LINES, .*", lambda: f"|{len(numbers_of_page(1))}|{', '.join(numbers_of_page(1))}|"),
     (r"\|[2, ]+\|[A-Z0-9, ]+; all in", lambda: f"|{', '.join('2' for _ in numbers_of_page(2))}|{', '.join(numbers_of_page(2))}; all in"),
     (r"\|\d+ each\|each line's \d+ counters, of eight octets,", counters_of_page)]}
@@ -198,7 +203,7 @@ PARTS: Dict[Tuple[str, str], Callable[[], str]] = {
     ("FORMAT.md", "numbers"): lambda: "\n".join(f"- {it.name.upper()}, {ranged(it)}: {without_clause(it)}" for it in card_line()),
     ("lapdsim.5", "numbers"): lambda: "\n".join(item(it.name.upper(), f"{ranged(it)}: {it.words}") for it in card_line()),
     ("lapdsim.5", "after"): lambda: "\n".join(
-        f"{item(f'either and {it.after} N', after_words(it) + '.')}\nWithout it: {it.usual}" for it in FIELDS if it.after),
+        f"{item(f'either and {it.after} N', after_words(it) + '.')}\nWithout it: {left_out(it)}" for it in FIELDS if it.after),
     ("lapdsim.5", "card_line"): lambda: f'.It Li "{first_words()}"\nstarts the card, and a clock at 0 ms',
 }
 

@@ -24,9 +24,9 @@ class Field(NamedTuple):
     octets: int  # in an image: all of one octet come before those of two
     words: str
     at_least: Tuple[str, ...] = ()  # its least is the greatest of these fields, too
-    left_out: str = ""  # the last number of a card line, which may be left out, and is this field then
-    after: str = ""  # no number of the card line: it stands after this word
-    usual: int = 0  # what 0 means in lapd_config, and no word in a card line
+    left_out: str = ""  # it may be left out of a card line, and is this field then; of the numbers the last
+    after: str = ""  # no number of the card line: it stands after this word, and 0 in lapd_config means that none does
+    usual: int = 0  # what it is then, if it is not `left_out`
 
 
 FIELDS = [
@@ -85,8 +85,9 @@ def taken_apart(words: List[str]) -> Tuple[List[str], Dict[str, List[str]]]:
 def numbers_of(words: List[str], ended: Dict[str, List[str]]) -> Dict[str, int]:
     """By their fields the numbers that a card line says, or leaves out: of words as `taken_apart` has them."""
     found = {it.name: int(word) for it, word in zip(card_line(), words)}
-    found.update({it.name: found[it.left_out] for it in FIELDS if it.left_out and it.name not in found})
-    return {**found, **{it.name: int(ended[it.after][0]) if it.after in ended else it.usual for it in FIELDS if it.after}}
+    found.update({it.name: found[it.left_out] for it in card_line() if it.left_out and it.name not in found})
+    found.update({it.name: int(ended[it.after][0]) for it in FIELDS if it.after in ended})
+    return {**{it.name: found[it.left_out] if it.left_out else it.usual for it in FIELDS if it.after}, **found}
 
 
 def behind_numbers() -> int:

@@ -5,16 +5,16 @@ import { element } from "./lists.mjs";
 // tools/names: card_line
 // name, least, greatest, what it is; the last may be left out
 const NUMBERS = [
-  ["lines", 1, 64, "the lines of the card"],
+  ["lines", 1, 64, "lines of the card"],
   ["terminals", 1, 8, "TEIs on each line"],
-  ["K", 1, 127, "the window of call control links (clause 5.9.5)"],
+  ["K", 1, 127, "the window of call control (clause 5.9.5)"],
   ["queue", 1, 127, "contents that wait on each link, sent or unsent: at least K and K16"],
   ["unit queue", 1, 16, "unit data that wait on each line"],
-  ["control", 2, 16, "control frames that wait on each link"],
-  ["slots", 1, 8192, "contents that wait on the whole card"],
+  ["control", 2, 16, "control frames on each link"],
+  ["slots", 1, 8192, "contents on the whole card"],
   ["N201", 8, 260, "octets of an information field at most (clause 5.9.3)"],
   ["N200", 0, 10, "how often a command is repeated (clause 5.9.2)"],
-  ["K16", 1, 127, "the window of links of the second service; if it is left out, it is K"],
+  ["K16", 1, 127, "the window of the second service; if it is left out, it is K"],
 ];
 // numbers that stand after a word: the word, and the same
 const AFTER = [

@@ -129,11 +129,11 @@ def edited(header: str, *pairs: str) -> str:
     return header
 
 
-def taken(header: str, before: str, field: str) -> str:
-    """A header with a field in the first reserved place of a struct, after the text that stands before these places."""
-    found = re.search(rf"{before}[^\n]*\n    (uint\d+_t) reserved\[(\d+)\]", header)
+def taken(header: str, struct: str, field: str) -> str:
+    """A header with a field in the first reserved place of a struct."""
+    found = re.search(rf"\bstruct {struct} \{{\n(?:    [^\n]*\n)*?    (uint\d+_t) reserved\[(\d+)\]", header)
     if not found:
-        raise ValueError(f"an edit does not fit the header: {before}")
+        raise ValueError(f"an edit does not fit the header: {struct}")
     rest = f"    {found[1]} reserved[{int(found[2]) - 1}]"
     return header[:found.start(1) - 4] + (f"    {found[1]} {field};\n" if field else "") + rest + header[found.end():]
 
@@ -149,9 +149,9 @@ def grown(header: str) -> str:
     """A copy with a field of the configuration and a call that asks of it, a counter, a number of a report, and a status: what a minor
     version may bring."""
     counters = numbers_in(bare(header))["LAPD_COUNTERS"]
-    header = taken(taken(header, "uint16_t reading;", "patience"), "uint8_t given_up_tei;", "patient")
-    header = header.replace("LAPD_ANNEX_B, { 0 } }", "LAPD_ANNEX_B, 0, { 0 } }")
-    header = taken(header, r"values\[LAPD_COUNTERS\];", "")
+    header = taken(taken(header, "lapd_config", "patience"), "lapd_report", "patient")
+    header = re.sub(r"(#define LAPD_(?:BASIC_ACCESS|PRIMARY_RATE) \{ .*), \{ 0 \} \}", r"\1, 0, { 0 } }", header)
+    header = taken(header, "lapd_counters", "")
     return edited(header, f"LAPD_COUNTERS = {counters}\n", f"LAPD_HEARD_PATIENCE = {counters}, LAPD_COUNTERS = {counters + 1}\n",
                   "LAPD_BAD_RESERVED = 47,", "LAPD_BAD_RESERVED = 47, LAPD_IMPATIENT = 99,",
                   "LAPD_INLINE bool lapd_tells", ASKS_PATIENCE + "LAPD_INLINE bool lapd_tells")

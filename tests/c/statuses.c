@@ -10,7 +10,8 @@
 #include "lapd.h"
 #include "lapd_memory.h"
 
-enum { TURNS = 30000000, MOST_CALLS = 70, MOST_STATUSES = 64, FIELDS = 14, SAVED = 2048 };
+enum { TURNS = 30000000, MOST_CALLS = 70, MOST_STATUSES = 64, SAVED = 2048 };
+enum { FIELDS = offsetof(lapd_config, reserved) / sizeof(uint16_t) };
 
 static struct {
     const char *name;
@@ -75,15 +76,15 @@ static lapd_timer timer(void) {
 static lapd_config config(void) {
     lapd_config it = {.lines = 2, .terminals = 2, .k = 1, .k16 = 1, .queue = 1, .unit_queue = 1, .control = 2, .slots = 2, .n201 = 8,
                       .n200 = 1};
+    it.side = (uint16_t)below(3);
+    it.seed = (uint16_t)below(65536);
+    it.reading = (uint16_t)below(2);
     uint16_t fields[FIELDS];
     memcpy(fields, &it, sizeof fields);
-    fields[FIELDS - 4] = (uint16_t)below(3);
-    fields[FIELDS - 3] = (uint16_t)below(65536);
-    fields[FIELDS - 1] = (uint16_t)below(2);
     if (below(2))
         fields[below(FIELDS)] = 0xFFFF;
     memcpy(&it, fields, sizeof fields);
-    it.reserved[below(18)] = below(8) == 0;
+    it.reserved[below(sizeof it.reserved / sizeof *it.reserved)] = below(8) == 0;
     return it;
 }
 

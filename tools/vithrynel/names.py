@@ -19,7 +19,7 @@ from .table import ENUMS, FIELDS, READING, SIDE, Field, behind_numbers, card_lin
 
 # The files with such marks, and how a number stands in each.
 PATHS = {"bindings/python/lapd.py": "{own} = {number}", "include/lapd.hpp": "{own} = {name},", "c/portable/card.c": "", "tests/c/words.c": "",
-         "tests/c/layout.c": "", "web/card.mjs": "", "docs/FORMAT.md": "", "man/lapdsim.5": ""}
+         "tests/c/check/wrong.c": "", "tests/c/layout.c": "", "web/card.mjs": "", "docs/FORMAT.md": "", "man/lapdsim.5": ""}
 # What is a word of C++ has another name there.
 CPP_NAMES = {"short": "too_short"}
 # What ctypes calls a plain type.
@@ -67,12 +67,16 @@ def usual_configs() -> str:
     return "\n".join(wrapped(f"{name} = Config(", words, ")") for name, words in rows)
 
 
-def ranges() -> str:
+def ranges(of: str = "config->{0}", greater: str = "config->{0} > config->{1} ? config->{0} : config->{1}") -> str:
     """As lapd.c tests them: each field, its least and greatest, and the status."""
-    rows = [(it.name, "0" if it.after else " > ".join(f"config->{one}" for one in it.at_least) or str(it.least), str(it.most)) for it in FIELDS]
-    rows = [(name, f"{least} ? {least.replace(' >', ' :')}" if ">" in least else least, most) for name, least, most in rows]
-    rows += [(it, "0", list(numbers_after(first))[-1]) for it, first in ENUMS.items()]
-    return "\n".join(f"{{config->{name}, {least}, {most}, LAPD_BAD_{name.upper()}}}," for name, least, most in rows)
+    rows = [(it.name, "0" if it.after else greater.format(*it.at_least) if it.at_least else it.least, it.most) for it in FIELDS]
+    rows += [(it, 0, list(numbers_after(first))[-1]) for it, first in ENUMS.items()]
+    return "\n".join(f"{{{of.format(name)}, {least}, {most}, LAPD_BAD_{name.upper()}}}," for name, least, most in rows)
+
+
+def edges() -> str:
+    """The same of a configuration whose windows are 1."""
+    return ranges("offsetof(lapd_config, {0})", "1")
 
 
 def image_octets() -> str:
@@ -149,7 +153,7 @@ def first_words() -> str:
 
 
 def after_words(it: Field) -> str:
-    return f"after these: N, {it.least} to {it.most}, is {without_clause(it)}"
+    return f"N, {it.least} to {it.most}, is {without_clause(it)}"
 
 
 def item(name: str, words: str) -> str:
@@ -173,8 +177,8 @@ def counters_of_page() -> str:
 # Rows of tables, where no comment can stand: how they begin, and what is written.
 ROWS: Dict[str, List[Tuple[str, Callable[[], str]]]] = {"docs/FORMAT.md": [
     (r"\|`card [A-Z0-9_ ]+`\|", lambda: f"|`{first_words()}`|"),
-    (r"(?:\|either and `[\w-]+ N`\|.*\n)+", lambda: "".join(
-        f"|either and `{it.after} N`|{after_words(it)}. Without it: {left_out(it)}|\n" for it in FIELDS if it.after)),
+    (r"(?:\|\.\. `[\w-]+ N`\|.*\n)+", lambda: "".join(
+        f"|.. `{it.after} N`|{after_words(it)}. Without it: {left_out(it)}|\n" for it in FIELDS if it.after)),
     (r"\|\d+\|LINES, .*", lambda: f"|{len(numbers_of_page(1))}|{', '.join(numbers_of_page(1))}|"),
     (r"\|[2, ]+\|[A-Z0-9, ]+; all in", lambda: f"|{', '.join('2' for _ in numbers_of_page(2))}|{', '.join(numbers_of_page(2))}; all in"),
     (r"\|\d+ each\|each line's \d+ counters, of eight octets,", counters_of_page)]}
@@ -197,13 +201,14 @@ PARTS: Dict[Tuple[str, str], Callable[[], str]] = {
     ("card.c", "ranges"): ranges,
     ("card.c", "image_octets"): image_octets,
     ("card.c", "image_numbers"): image_numbers,
+    ("wrong.c", "edges"): edges,
     ("words.c", "card_line"): card_line_of_c,
     ("card.mjs", "card_line"): card_line_of_page,
     ("layout.c", "layout"): layout,
     ("FORMAT.md", "numbers"): lambda: "\n".join(f"- {it.name.upper()}, {ranged(it)}: {without_clause(it)}" for it in card_line()),
     ("lapdsim.5", "numbers"): lambda: "\n".join(item(it.name.upper(), f"{ranged(it)}: {it.words}") for it in card_line()),
     ("lapdsim.5", "after"): lambda: "\n".join(
-        f"{item(f'either and {it.after} N', after_words(it) + '.')}\nWithout it: {left_out(it)}" for it in FIELDS if it.after),
+        f"{item(f'either and {it.after} N', 'after these: ' + after_words(it) + '.')}\nWithout it: {left_out(it)}" for it in FIELDS if it.after),
     ("lapdsim.5", "card_line"): lambda: f'.It Li "{first_words()}"\nstarts the card, and a clock at 0 ms',
 }
 

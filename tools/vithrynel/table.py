@@ -30,14 +30,14 @@ class Field(NamedTuple):
 
 
 FIELDS = [
-    Field("lines", 1, 64, 1, "the lines of the card"),
+    Field("lines", 1, 64, 1, "lines of the card"),
     Field("terminals", 1, 8, 1, "TEIs on each line"),
-    Field("k", 1, 127, 1, "the window of call control links (clause 5.9.5)"),
-    Field("k16", 1, 127, 1, "the window of links of the second service", left_out="k"),
+    Field("k", 1, 127, 1, "the window of call control (clause 5.9.5)"),
+    Field("k16", 1, 127, 1, "the window of the second service", left_out="k"),
     Field("queue", 1, 127, 1, "contents that wait on each link, sent or unsent", at_least=("k", "k16")),
     Field("unit_queue", 1, 16, 1, "unit data that wait on each line"),
-    Field("control", 2, 16, 1, "control frames that wait on each link"),
-    Field("slots", 1, 8192, 2, "contents that wait on the whole card"),
+    Field("control", 2, 16, 1, "control frames on each link"),
+    Field("slots", 1, 8192, 2, "contents on the whole card"),
     Field("n201", 8, 260, 2, "octets of an information field at most (clause 5.9.3)"),
     Field("n200", 0, 10, 1, "how often a command is repeated (clause 5.9.2)"),
     Field("sapi", 1, 62, 1, "the SAPI of the second service", after="sapi", usual=16),

@@ -8,7 +8,9 @@ export const USUAL_SAPI = "16"; // of the second service
 const OCTETS = /^(rx|in) ([0-9]+) (-|(?:[0-9A-Fa-f]{2})*)$/;
 const WAIT = /^wait ([0-9]+)$/;
 const TIMERS = /^timers 0*([1-9][0-9]*) 0*([1-9][0-9]*) 0*([1-9][0-9]*)(?: 0*([1-9][0-9]*))?$/;
+// tools/names: card_wide
 const CARD_WIDE = ["card", "frames", "wait", "timers", "stored", "losses", "save", "restore"];
+// tools/names: end
 
 /** The octets of digits. */
 export function octetsIn(digits) {

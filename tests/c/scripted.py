@@ -8,6 +8,7 @@ from compiled import ROOT
 
 sys.path[:0] = [f"{ROOT}/tools", f"{ROOT}/bindings/python"]
 import lapd
+from vithrynel import table
 from vithrynel.bits import Deframer, Frame, Terminal
 from vithrynel.header import numbers as numbers_of_header
 from vithrynel.table import FIELDS, READING, SIDE, card_line, least_numbers, numbers_of, taken_apart
@@ -18,25 +19,12 @@ LATEST = (1 << 63) - 1
 MESSAGES = numbers_of_header()["LAPD_HEARD_REQUEST"]
 OCTETS = re.compile(rb"-|(?:[0-9A-Fa-f]{2})*")
 CAUSES = {b"abort": lapd.Cause.ABORT, b"ragged": lapd.Cause.RAGGED, b"short": lapd.Cause.SHORT, b"fcs": lapd.Cause.FCS}
-# Words that are followed by octets, and by how many numbers before; and the range of the last number.
-NUMBERS: Dict[bytes, Tuple[int, int, int]] = {
-    b"rx": (1, 0, MOST_NUMBER), b"in": (1, 0, MOST_NUMBER), b"pull": (2, 1, MOST_PULLS), b"next": (1, 0, MOST_NUMBER),
-    b"wait": (1, 0, MOST_WAIT), b"stored": (0, 0, 0), b"losses": (0, 0, 0), b"save": (0, 0, 0),
-    b"restore": (0, 0, 0), b"counters": (1, 0, MOST_NUMBER),
-    b"messages": (1, 0, MOST_NUMBER), b"down": (1, 0, MOST_NUMBER), b"ask": (1, 0, MOST_NUMBER),
-    **{it: (2, 0, MOST_TEI) for it in (b"assign", b"remove", b"check", b"disown", b"verify", b"establish", b"release", b"busy",
-                                       b"ready", b"deactivate", b"data", b"unit", b"establish16", b"release16", b"busy16", b"ready16",
-                                       b"deactivate16", b"data16", b"unit16")}}
-WITH_OCTETS = {b"rx", b"in", b"data", b"unit", b"data16", b"unit16"}
+WORDS = {it.word.encode(): it for it in table.WORDS}
 
 
 # The card of a line's word, and whether it keeps its own timers.
 KINDS: Dict[Tuple[str, bool], Any] = {("card", False): lapd.Card, ("frames", False): lapd.FrameCard,
                                       ("card", True): lapd.TimedCard, ("frames", True): lapd.TimedFrameCard}
-
-
-# Requests that lapd.py calls otherwise.
-REQUESTS = {"ask": "ask_tei", "verify": "verify_tei"}
 
 
 class Faulty(Exception):
@@ -79,7 +67,7 @@ def config_of(words: List[bytes]) -> Dict[str, int]:
 def read(text: bytes) -> Line:
     """A line of a script, before a card is asked."""
     word, *words = text.split(b" ")
-    if word in (b"card", b"frames"):
+    if word.decode("latin-1") in table.CARDS:
         return Line(word.decode(), [], config=config_of(words))
     if word == b"timers":
         return Line("timers", [number(it, 1, MOST_WAIT) for it in counted(words, 3, 4)])
@@ -88,12 +76,12 @@ def read(text: bytes) -> Line:
         if words[1] not in CAUSES:
             raise Faulty("bad cause")
         return Line("failed", [line], last=words[1])
-    if word not in NUMBERS:
+    if word not in WORDS:
         raise Faulty("unknown word")
-    count, least, most = NUMBERS[word]
-    counted(words, count + (word in WITH_OCTETS))
+    _, count, least, most, has_octets, *_ = WORDS[word]
+    counted(words, count + has_octets)
     found = [number(it, *((least, most) if at + 1 == count else ())) for at, it in enumerate(words[:count])]
-    if word not in WITH_OCTETS:
+    if not has_octets:
         return Line(word.decode(), found)
     if not OCTETS.fullmatch(words[-1]):
         raise Faulty("bad octets")
@@ -180,7 +168,7 @@ class Station:
         yield f"{line} frame {shown(found[0])}"
 
     def asked(self, word: str, line: int, tei: int, contents: bytes) -> Iterator[str]:
-        request = getattr(self.card, REQUESTS.get(word, word.rstrip("16")))
+        request = getattr(self.card, WORDS[word.encode()].request[len("LAPD_"):].lower())
         named = {} if word == "ask" else {"tei": tei, **({"contents": contents} if word.startswith(("data", "unit")) else {})}
         try:
             report = request(line, lapd.Service.PACKET, *named.values()) if word.endswith("16") else request(line, **named)
@@ -218,7 +206,7 @@ class Station:
 
     def obey(self, line: Line) -> Iterator[str]:
         """What a line leads to."""
-        if line.word in ("card", "frames"):
+        if line.word in table.CARDS:
             self.start(line)
         elif not self.card:
             raise Faulty("no card")

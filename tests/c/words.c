@@ -25,6 +25,7 @@ typedef struct {
 enum { ANY = 65535, MOST_TEI = 255 };
 
 static const meaning meanings[] = {
+    /* tools/names: words */
     {"rx", RX, 0, 0, 1, true, 0, ANY},
     {"in", IN, 0, 0, 1, true, 0, ANY},
     {"pull", PULL, 0, 0, 2, false, 1, 4096},
@@ -57,6 +58,7 @@ static const meaning meanings[] = {
     {"deactivate16", REQUEST, LAPD_DEACTIVATE, LAPD_PACKET, 2, false, 0, MOST_TEI},
     {"data16", REQUEST, LAPD_DATA, LAPD_PACKET, 2, true, 0, MOST_TEI},
     {"unit16", REQUEST, LAPD_UNIT, LAPD_PACKET, 2, true, 0, MOST_TEI},
+    /* tools/names: end */
 };
 
 /* A word that may stand at the end of a card line, from a place on, with so many words after it. It sets a field by how many

@@ -15,11 +15,11 @@ from typing import Callable, Dict, List, Tuple
 
 from .checked import tag, wrapped
 from .header import enums, numbers, structs, usual
-from .table import ENUMS, FIELDS, READING, SIDE, Field, behind_numbers, card_line, counted, counters, endings, in_order, least_numbers, link_octets
+from .table import CARD_WIDE, ENUMS, FIELDS, MOST_TEI, READING, SIDE, WORDS, Field, behind_numbers, card_line, counted, counters, endings, in_order, least_numbers, link_octets
 
 # The files with such marks, and how a number stands in each.
 PATHS = {"bindings/python/lapd.py": "{own} = {number}", "include/lapd.hpp": "{own} = {name},", "c/portable/card.c": "", "tests/c/words.c": "",
-         "tests/c/check/wrong.c": "", "tests/c/layout.c": "", "web/card.mjs": "", "docs/FORMAT.md": "", "man/lapdsim.5": ""}
+         "tests/c/check/wrong.c": "", "tests/c/layout.c": "", "web/card.mjs": "", "web/script.mjs": "", "docs/FORMAT.md": "", "man/lapdsim.5": ""}
 # What is a word of C++ has another name there.
 CPP_NAMES = {"short": "too_short"}
 # What ctypes calls a plain type.
@@ -183,6 +183,13 @@ ROWS: Dict[str, List[Tuple[str, Callable[[], str]]]] = {"docs/FORMAT.md": [
     (r"\|[2, ]+\|[A-Z0-9, ]+; all in", lambda: f"|{', '.join('2' for _ in numbers_of_page(2))}|{', '.join(numbers_of_page(2))}; all in"),
     (r"\|\d+ each\|each line's \d+ counters, of eight octets,", counters_of_page)]}
 
+def words_of_c() -> str:
+    """The words of scripts, as the tests' reader in C has them."""
+    named = {65535: "ANY", MOST_TEI: "MOST_TEI"}
+    return "\n".join(f'{{"{it.word}", {"REQUEST" if it.request else it.word.upper()}, {it.request or 0}, {it.service}, {it.numbers}, '
+                     f'{str(it.octets).lower()}, {it.least}, {named.get(it.most, it.most)}}},' for it in WORDS)
+
+
 # ---- Structs -----------------------------------------------------------------------------------------------------------------
 
 def layout() -> str:
@@ -194,6 +201,7 @@ def layout() -> str:
     return "\n".join(rows)
 
 
+DOUBLE = '"{}"'
 PARTS: Dict[Tuple[str, str], Callable[[], str]] = {
     ("lapd.py", "config"): config_of_python,
     ("lapd.py", "usual_configs"): usual_configs,
@@ -203,6 +211,8 @@ PARTS: Dict[Tuple[str, str], Callable[[], str]] = {
     ("card.c", "image_numbers"): image_numbers,
     ("wrong.c", "edges"): edges,
     ("words.c", "card_line"): card_line_of_c,
+    ("words.c", "words"): words_of_c,
+    ("script.mjs", "card_wide"): lambda: f"const CARD_WIDE = [{', '.join(map(DOUBLE.format, CARD_WIDE))}];",
     ("card.mjs", "card_line"): card_line_of_page,
     ("layout.c", "layout"): layout,
     ("FORMAT.md", "numbers"): lambda: "\n".join(f"- {it.name.upper()}, {ranged(it)}: {without_clause(it)}" for it in card_line()),

@@ -4,6 +4,7 @@ import sys
 from typing import Iterator, List, NamedTuple, Optional, Tuple
 
 from .program import Fault
+from .table import CARD_WIDE, CARDS
 
 LONGEST_LINE = 4096
 LONGEST_WAIT = 3_600_000
@@ -34,7 +35,7 @@ class Line(NamedTuple):
     def about(self) -> Optional[int]:
         """The line of the card that it is about, if it is about one."""
         words = self.words()
-        is_card_wide = self.is_skipped() or words[0] in ("card", "frames", "wait", "timers", "stored", "losses", "save", "restore")
+        is_card_wide = self.is_skipped() or words[0] in CARD_WIDE
         return None if is_card_wide or len(words) < 2 or not words[1].isdigit() else int(words[1])
 
     def brings(self) -> Optional[Tuple[str, int, bytes]]:
@@ -67,7 +68,7 @@ class Line(NamedTuple):
         return str(int(after[0])) if after and after[0].isdecimal() else USUAL_SAPI
 
     def is_card(self) -> bool:
-        return self.words()[0] in ("card", "frames")
+        return self.words()[0] in CARDS
 
     def waits(self) -> Optional[int]:
         """Of `wait` the milliseconds."""

@@ -56,6 +56,38 @@ class Ending(NamedTuple):
     number: str  # the field that a word after it says
 
 
+class Word(NamedTuple):
+    """A first word of a script's line."""
+    word: str
+    numbers: int  # so many follow it
+    least: int = 0  # of the last of them
+    most: int = 65535
+    octets: bool = False  # they come after the numbers
+    request: str = ""  # of lapd.h
+    service: str = "0"
+
+
+MOST_TEI = 255
+# Words that are read in a way of their own; and the others. Of a request without a row the word is the header's name.
+CARDS, OWN_WAY = ("card", "frames"), ("timers", "failed")
+REQUESTS = {"ask": "LAPD_ASK_TEI", "verify": "LAPD_VERIFY_TEI"}
+
+
+def request(word: str, service: str = "LAPD_CALL", numbers: int = 2) -> Word:
+    most, ending = (MOST_TEI if numbers == 2 else 65535), "16" * (service == "LAPD_PACKET")
+    return Word(f"{word}{ending}", numbers, 0, most, word in ("data", "unit"), REQUESTS.get(word, f"LAPD_{word.upper()}"), service)
+
+
+WORDS = [
+    Word("rx", 1, octets=True), Word("in", 1, octets=True), Word("pull", 2, 1, 4096), Word("next", 1), Word("wait", 1, 0, 3600000),
+    Word("stored", 0), Word("losses", 0), Word("save", 0), Word("restore", 0), Word("counters", 1), Word("messages", 1), Word("down", 1),
+    request("ask", numbers=1), *map(request, ("verify", "assign", "remove", "check", "disown")),
+    *(request(it, service) for service in ("LAPD_CALL", "LAPD_PACKET") for it in ("establish", "release", "busy", "ready", "deactivate", "data", "unit")),
+]
+# Those that are about no line of the card.
+CARD_WIDE = [*CARDS, "wait", "timers", *(it.word for it in WORDS if not it.numbers)]
+
+
 def card_line() -> List[Field]:
     return sorted((it for it in FIELDS if not it.after), key=lambda it: it.left_out != "")
 

@@ -27,7 +27,8 @@ static void wants(bool is, const char *what) {
 /* The numbers of call control of the TEI at a card, in their order. */
 static void has_counted(lapd_card *card, unsigned again, unsigned expired, unsigned sent, unsigned received, unsigned established,
                         const char *what) {
-    struct lapd_link_counters is = {9, 9, 9, 9, 9, {9}};
+    struct lapd_link_counters is;
+    memset(&is, 9, sizeof is);
     wants(lapd_link_counters(card, 0, LAPD_CALL, TEI, &is) == LAPD_OK && is.sent_again == again && is.t200_expired == expired
               && is.rejects_sent == sent && is.rejects_received == received && is.established == established, what);
 }

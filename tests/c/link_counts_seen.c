@@ -133,7 +133,8 @@ static void starts(unsigned seed) {
 
 static void one_step(unsigned seed, unsigned step, unsigned loss) {
     int card = (int)below(2);
-    struct lapd_link_counters told = {9, 9, 9, 9, 9, {9}};
+    struct lapd_link_counters told;
+    memset(&told, 9, sizeof told);
     unsigned draw = below(300);
     if (draw < 110)
         gives(card, loss);

@@ -6,8 +6,28 @@
 namespace monitor {
 
 namespace {
+
 constexpr size_t FEWEST_SLOTS = 64;
+constexpr unsigned NUMBERS = 4, OF_RC = 8;
+
+uint8_t *number_of(State &it, unsigned which) { return which == 0 ? &it.vs : which == 1 ? &it.va : which == 2 ? &it.vr : &it.rc; }
+
+// A bit for each number that is not known.
+unsigned pattern_of(State it) {
+    unsigned pattern = 0;
+    for (unsigned which = 0; which < NUMBERS; which++)
+        pattern |= *number_of(it, which) == UNKNOWN ? 1u << which : 0u;
+    return pattern;
 }
+
+State without(State it, unsigned pattern) {
+    for (unsigned which = 0; which < NUMBERS; which++)
+        if ((pattern >> which & 1) != 0)
+            *number_of(it, which) = UNKNOWN;
+    return it;
+}
+
+} // namespace
 
 size_t Set::slot_of(uint64_t key) const {
     uint64_t mixed = key * 0x9E3779B97F4A7C15u;
@@ -65,6 +85,39 @@ void Set::forget_losses() {
         it.e.losses = 0;
         it.e.lost = {};
     }
+}
+
+// The patterns of unknown numbers that there are, a bit for each.
+unsigned Set::unknown_numbers() const {
+    unsigned patterns = 0;
+    for (const Possible &it : all)
+        patterns |= 1u << pattern_of(it.s);
+    return patterns;
+}
+
+bool Set::is_covered(const Possible &it, unsigned patterns) const {
+    for (unsigned pattern = 1; pattern < 1u << NUMBERS; pattern++) {
+        if ((patterns >> pattern & 1) == 0)
+            continue;
+        uint64_t key = without(it.s, pattern).key();
+        uint32_t slot = slots[slot_of(key)];
+        if (key != it.s.key() && slot != 0 && all[slot - 1].e.covers(it.e))
+            return true;
+    }
+    return false;
+}
+
+void Set::leave_widest() {
+    const unsigned patterns = unknown_numbers();
+    if ((patterns & ~(1u | 1u << OF_RC)) == 0) // a state of which RC is not known has no other of which it is
+        return;
+    std::vector<Possible> kept;
+    for (const Possible &it : all)
+        if (!is_covered(it, patterns))
+            kept.push_back(it);
+    clear();
+    for (const Possible &it : kept)
+        add(it);
 }
 
 } // namespace monitor

@@ -34,10 +34,14 @@ class Set {
     const Possible &likeliest() const;
     // From now on losses are counted anew.
     void forget_losses();
+    // Takes out each state that another one covers, which knows less of the numbers: all that may come of it may come of that.
+    void leave_widest();
 
   private:
     void grow();
     size_t slot_of(uint64_t key) const;
+    unsigned unknown_numbers() const;
+    bool is_covered(const Possible &it, unsigned patterns) const;
 
     std::vector<Possible> all;
     std::vector<uint64_t> keys;

@@ -58,6 +58,11 @@ struct Evidence {
 
     // Takes in another way to the same state. True: the evidence is another than before.
     bool widen(const Evidence &other);
+    // It explains all that the other does, by no more losses.
+    bool covers(const Evidence &other) const {
+        return losses <= other.losses && started_from <= other.started_from && started_to >= other.started_to
+            && due_by >= other.due_by;
+    }
 };
 
 struct Possible {

@@ -216,6 +216,7 @@ void Watch::estimate(const Frame &frame, Time now) {
 // These are the states from now on.
 void Watch::take(Set &next) {
     set.swap(next);
+    set.leave_widest();
     largest = std::max(largest, set.size());
     uint32_t least = transit.tapped();
     for (const Possible &it : set)

@@ -7,7 +7,7 @@ import iua
 from checks import check
 from iua import Association, data, dlci, lines, link, message, number, parameter
 from peer import Peer
-from program import ROOT, Gateway, group, section, server
+from program import Gateway, ROOT, group, own_address, section, server
 
 DATA = data(b"\x08\x01\x01\x05")
 BASIC, PRIMARY, USER, NOBODY, ABSENT = 0, 100, 200, 300, 5000
@@ -207,8 +207,9 @@ def order(own):
 
 def processes(table, program, folder):
     """Errors 13 to 15, of processes that are configured."""
-    more = [section("asp known", address="unix", identifier=7, servers="one"), section("asp other", address="unix", identifier=8),
-            section("asp shut", address="unix", identifier=9, blocked="yes"),
+    here = own_address()
+    more = [section("asp known", address=here, identifier=7, servers="one"), section("asp other", address=here, identifier=8),
+            section("asp shut", address=here, identifier=9, blocked="yes"),
             section("asp far", address="192.0.2.1", identifier=10)]
     with Gateway(program, folder, *configuration(*more)) as gateway, \
             Association(gateway.iua) as one, Association(gateway.iua) as two:

@@ -81,6 +81,11 @@ def server(name, first, last, **words):
     return section(f"server {name}", first=first, last=last, **words)
 
 
+def own_address():
+    """The address of servers' processes here, as a section of one has it."""
+    return "127.0.0.1" if transport == "sctp" else "unix"
+
+
 class Gateway:
     """A gateway in a folder of its own. It is ready after start(), as systemd would be told, and ends at the end of `with`."""
 

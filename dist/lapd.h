@@ -213,15 +213,22 @@ enum {
     LAPD_BAD_SLOTS = 40,
     LAPD_BAD_N201 = 41,
     LAPD_BAD_N200 = 42,
-    LAPD_BAD_SIDE = 43, /* of lapd_frame_text, too */
+    LAPD_BAD_SIDE = 43, /* of lapd_frame_read and lapd_frame_text, too */
     LAPD_BAD_SAPI = 44,
     LAPD_BAD_READING = 45,
     LAPD_BAD_RESERVED = 47, /* a reserved place of a configuration, or of lengths, is not 0: the struct was not zeroed, or the
                                program wants what a later version has */
 
     /* Of a restore. No card and no clock is there then. */
-    LAPD_BAD_IMAGE = 46 /* no image, or one of another kind or version; damaged so that its form shows it; or of a state
+    LAPD_BAD_IMAGE = 46, /* no image, or one of another kind or version; damaged so that its form shows it; or of a state
                            that docs/FORMAT.md excludes */
+
+    /* Of lapd_frame_read: why octets are no frame, the first that holds. */
+    LAPD_FRAME_SHORT = 48,     /* fewer than 3, or 3 where the control field has two octets (clause 2.9) */
+    LAPD_FRAME_EXTENSION = 49, /* the address is not one of two octets (clauses 2.9 and 3.3.1) */
+    LAPD_FRAME_UNDEFINED = 50, /* no control field of table 5, or a command's in a response, or a response's in a command
+                                  (clause 3.6.1) */
+    LAPD_FRAME_SIZE = 51       /* more or fewer octets than frames of this kind have (clauses 3.6.2 to 3.6.12) */
 };
 
 /* ---- The configuration of a card -------------------------------------------------------------------------------- */
@@ -375,7 +382,8 @@ enum {
  * while some are outstanding: sent, not acknowledged, and not to be sent again. All that an event gives up is of one TEI,
  * `given_up_tei`. `given_up` and `given_up_16` say how many contents its two links give up. These are the
  * ones that were granted last before the event, sent or not; what was sent may have arrived all the same. So read a report
- * before the card's next call. A release has no note as it is granted: its own report tells what it gives up. Unit data is not counted: it is given up only as the line goes down. No
+ * before the card's next call. A release has no note as it is granted, nor has, by annex B, an establish in
+ * state 5: its own report tells what it gives up. Unit data is not counted: it is given up only as the line goes down. No
  * report counts what is lost by lapd_card_free, a restart or a standby that takes over.
  *
  * A report is written by the calls that it is handed to, and by these alone: no card keeps its address. It has no pointers, so
@@ -579,6 +587,10 @@ LAPD_STATUS lapd_request(lapd_card *card, uint32_t line, uint8_t request, uint8_
  * far too great stops all timers of the card for good: then free it, and start another.
  */
 LAPD_STATUS lapd_fall_due(lapd_card *card, uint64_t now, lapd_report *report);
+
+/* The moment at which the card is: the one that lapd_fall_due was told last, even if it answered LAPD_NO_TIMER; 0 before the first.
+ * A card that was restored is at the moment at which it was saved. */
+LAPD_STATUS lapd_now(lapd_card *card, uint64_t *moment);
 
 /* When the timer falls due that falls due first: nothing falls due before, unless another call starts a timer. So ask once all
  * other calls of a turn are made. If lapd_fall_due has answered LAPD_NO_TIMER, it is later than now; while a timer that is due
@@ -788,7 +800,47 @@ LAPD_STATUS lapd_card_save(lapd_card *card, uint8_t *image, size_t room, size_t 
  * believed, so an image may come from anywhere. But it has no check: one that was changed, and is an image still, is taken. */
 LAPD_STATUS lapd_card_restore(lapd_card *card, const uint8_t *image, size_t length);
 
-/* ---- A frame in words ------------------------------------------------------------------------------------------- */
+/* ---- A frame in fields, and in words ------------------------------------------------------------------------------ */
+
+/* Frames, by their kinds in table 5 of Q.921. */
+enum {
+    LAPD_KIND_I = 1,
+    LAPD_KIND_RR = 2,
+    LAPD_KIND_RNR = 3,
+    LAPD_KIND_REJ = 4,
+    LAPD_KIND_SABME = 5,
+    LAPD_KIND_DISC = 6,
+    LAPD_KIND_UI = 7,
+    LAPD_KIND_UA = 8,
+    LAPD_KIND_DM = 9,
+    LAPD_KIND_FRMR = 10,
+    LAPD_KIND_XID = 11
+};
+
+/* What a frame says. */
+typedef struct lapd_fields {
+    uint8_t kind;    /* LAPD_KIND_I to LAPD_KIND_XID */
+    uint8_t command; /* 1 of a command, 0 of a response */
+    uint8_t sapi;    /* 0 to 63 */
+    uint8_t tei;     /* 0 to 127 */
+    uint8_t bit;     /* 0 or 1: P of a command, F of a response */
+    uint8_t ns;      /* N(S) of an I frame: 0 to 127; otherwise 0 */
+    uint8_t nr;      /* N(R) of an I frame, RR, RNR or REJ: 0 to 127; otherwise 0 */
+    uint8_t start;   /* at which octet its information begins: 3 or 4 */
+    uint16_t info;   /* so many octets its information has */
+    uint8_t reserved[6]; /* for a later version: 0 */
+} lapd_fields;
+
+/*
+ * What octets say as a frame that a side sent (LAPD_NETWORK, LAPD_USER or, the same, LAPD_TERMINAL), without a check, by the
+ * grammar by which a card reads: for logs, monitors and captures. A card asks more of a frame than that it is one: its address has
+ * to be known and served, and its information at most n201 octets long.
+ *
+ * LAPD_FRAME_SHORT to LAPD_FRAME_SIZE: they are no frame. LAPD_WRONG_LENGTH: `length` is over 1,028. LAPD_BAD_SIDE: it is no side.
+ * Nothing is written then. It is of no card, takes no memory, and may be called at any time; of lapd.c it takes 24 KB of
+ * stack.
+ */
+LAPD_STATUS lapd_frame_read(const uint8_t *octets, size_t length, uint16_t side, lapd_fields *fields);
 
 /*
  * What octets say, without a check, as a side sent them (LAPD_NETWORK, LAPD_USER or, the same, LAPD_TERMINAL), for a log:
@@ -1171,6 +1223,10 @@ LAPD_INLINE const char *lapd_status_text(uint32_t status) {
     case LAPD_BAD_READING: return "reading is out of range";
     case LAPD_BAD_RESERVED: return "a reserved place is not 0";
     case LAPD_BAD_IMAGE: return "bad image";
+    case LAPD_FRAME_SHORT: return "frame: short";
+    case LAPD_FRAME_EXTENSION: return "frame: bad extension";
+    case LAPD_FRAME_UNDEFINED: return "frame: undefined";
+    case LAPD_FRAME_SIZE: return "frame: wrong size";
     default: return "unknown status";
     }
 }

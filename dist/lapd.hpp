@@ -142,6 +142,10 @@ enum class [[nodiscard]] status : uint32_t {
     bad_reading = LAPD_BAD_READING,
     bad_reserved = LAPD_BAD_RESERVED,
     bad_image = LAPD_BAD_IMAGE,
+    frame_short = LAPD_FRAME_SHORT,
+    frame_extension = LAPD_FRAME_EXTENSION,
+    frame_undefined = LAPD_FRAME_UNDEFINED,
+    frame_size = LAPD_FRAME_SIZE,
     // tools/names: end
 };
 
@@ -187,6 +191,23 @@ enum class order_kind : uint8_t {
     // tools/names: end
 };
 
+/// The frames of table 5.
+enum class frame_kind : uint8_t {
+    // tools/names: LAPD_KIND_I
+    kind_i = LAPD_KIND_I,
+    kind_rr = LAPD_KIND_RR,
+    kind_rnr = LAPD_KIND_RNR,
+    kind_rej = LAPD_KIND_REJ,
+    kind_sabme = LAPD_KIND_SABME,
+    kind_disc = LAPD_KIND_DISC,
+    kind_ui = LAPD_KIND_UI,
+    kind_ua = LAPD_KIND_UA,
+    kind_dm = LAPD_KIND_DM,
+    kind_frmr = LAPD_KIND_FRMR,
+    kind_xid = LAPD_KIND_XID,
+    // tools/names: end
+};
+
 enum class cause : uint8_t {
     none = 0,
     // tools/names: LAPD_ABORT
@@ -213,6 +234,12 @@ enum class state : uint8_t {
 
 inline const char *text(status of) { return lapd_status_text(static_cast<uint32_t>(of)); }
 inline const char *text(cause of) { return lapd_cause_text(static_cast<uint8_t>(of)); }
+
+/// What octets say as a frame, without a check, as a side sent them (LAPD_NETWORK, LAPD_USER or LAPD_TERMINAL), in fields; or
+/// status::frame_short to status::frame_size, if they are none.
+inline status frame_read(octets of, uint16_t side, lapd_fields &to) {
+    return static_cast<status>(lapd_frame_read(at(of), of.size(), side, &to));
+}
 
 /// What octets say, without a check, as a side sent them (LAPD_NETWORK, LAPD_USER or LAPD_TERMINAL): the first line that
 /// `lapdsim frame` prints of them, and a message of TEI management in words, in front of the room, with a 0 at its end.
@@ -356,6 +383,8 @@ public:
     /// The time is now this moment, and what is due first falls due; status::no_timer if nothing is due, and status::wrong_time of
     /// a moment before the last one.
     status fall_due(uint64_t now, report &to) { return of(lapd_fall_due(&card_, now, to.raw())); }
+    /// The moment that was told last, or that of its image; 0 before.
+    status now(uint64_t &moment) { return of(lapd_now(&card_, &moment)); }
     /// When the first timer falls due; status::no_timer if none runs.
     status next_moment(uint64_t &moment) { return of(lapd_next_moment(&card_, &moment)); }
     /// When the state of a link changed last, where the coming of its TEI counts; 0 if that was before a moment was told.

@@ -110,6 +110,10 @@ class Status(enum.IntEnum):
     BAD_READING = 45
     BAD_RESERVED = 47
     BAD_IMAGE = 46
+    FRAME_SHORT = 48
+    FRAME_EXTENSION = 49
+    FRAME_UNDEFINED = 50
+    FRAME_SIZE = 51
     # tools/names: end
 
     @classmethod
@@ -194,6 +198,24 @@ class Cause(enum.IntEnum):
 
     def __str__(self) -> str:
         return _text(library().lapd_cause_text(self))
+
+
+class FrameKind(enum.IntEnum):
+    """The frames of table 5."""
+
+    # tools/names: LAPD_KIND_I
+    KIND_I = 1
+    KIND_RR = 2
+    KIND_RNR = 3
+    KIND_REJ = 4
+    KIND_SABME = 5
+    KIND_DISC = 6
+    KIND_UI = 7
+    KIND_UA = 8
+    KIND_DM = 9
+    KIND_FRMR = 10
+    KIND_XID = 11
+    # tools/names: end
 
 
 class Request(enum.IntEnum):
@@ -321,6 +343,14 @@ class _Head(ctypes.Structure):
     # tools/names: end
 
 
+class _Fields(ctypes.Structure):
+    # tools/names: lapd_fields
+    _fields_ = [("kind", ctypes.c_uint8), ("command", ctypes.c_uint8), ("sapi", ctypes.c_uint8), ("tei", ctypes.c_uint8),
+                ("bit", ctypes.c_uint8), ("ns", ctypes.c_uint8), ("nr", ctypes.c_uint8), ("start", ctypes.c_uint8),
+                ("info", ctypes.c_uint16), ("reserved", ctypes.c_uint8 * 6)]
+    # tools/names: end
+
+
 class _Counters(ctypes.Structure):
     # tools/names: lapd_counters
     _fields_ = [("values", ctypes.c_uint64 * 79), ("reserved", ctypes.c_uint64 * 17)]
@@ -351,7 +381,7 @@ _TAKES: Dict[str, List[Any]] = {
     "lapd_card_start_timed": [_AT, _AT, _AT], "lapd_card_start_frames_timed": [_AT, _AT, _AT],
     "lapd_card_save": [_AT, _AT, _SIZE, _AT], "lapd_card_restore": [_AT, _AT, _SIZE],
     "lapd_fall_due": [_AT, _U64, _AT], "lapd_next_moment": [_AT, _AT], "lapd_card_set_lengths": [_AT, _AT],
-    "lapd_changed_at": [_AT, _U32, _U8, _U8, _AT],
+    "lapd_changed_at": [_AT, _U32, _U8, _U8, _AT], "lapd_now": [_AT, _AT],
     "lapd_octet": [_AT, _U32, _U8, _AT], "lapd_pull": [_AT, _U32, _AT, _AT],
     "lapd_exchange": [_AT, _U32, _AT, _SIZE, _AT, _SIZE, _AT, _AT],
     "lapd_frame": [_AT, _U32, _AT, _SIZE, _AT], "lapd_frame_failed": [_AT, _U32, _U8, _AT],
@@ -369,6 +399,7 @@ _TAKES: Dict[str, List[Any]] = {
     "lapd_status_text": [_U32], "lapd_note_text": [_AT], "lapd_note_text_of": [_AT, _AT, _AT, _SIZE],
     "lapd_cause_text": [_U8], "lapd_counter_text": [_U32],
     "lapd_turned": [_U8], "lapd_frame_text": [_AT, _SIZE, ctypes.c_uint16, _AT, _SIZE],
+    "lapd_frame_read": [_AT, _SIZE, ctypes.c_uint16, _AT],
 }
 _ANSWERS: Dict[str, Any] = {**{f"lapd_{it}_text": ctypes.c_char_p for it in ("status", "note", "cause", "counter")},
                             "lapd_turned": ctypes.c_uint8, "lapd_version": ctypes.c_uint32, "lapd_image_octets": ctypes.c_uint32}
@@ -447,6 +478,16 @@ def turned(octets: bytes) -> bytes:
     return _octets(octets).translate(_turned())
 
 
+def frame_read(octets: bytes, side: Side = Side.USER) -> "Fields":
+    """What octets say as a frame, without a check, as a side sent them, by the grammar by which a card reads. If they are none, an
+    Error says why: FRAME_SHORT, FRAME_EXTENSION, FRAME_UNDEFINED or FRAME_SIZE."""
+    octets, told = _octets(octets), _Fields()
+    _call("lapd_frame_read", octets, len(octets), side, ctypes.byref(told))
+    kind = FrameKind(told.kind)
+    ns, nr = (told.ns if kind is FrameKind.KIND_I else None), (told.nr if kind <= FrameKind.KIND_REJ else None)
+    return Fields(kind, bool(told.command), told.sapi, told.tei, bool(told.bit), ns, nr, octets[told.start:])
+
+
 def frame_text(octets: bytes, side: Side = Side.USER) -> str:
     """What octets say, without a check, as a side sent them: the first line that `lapdsim frame` prints of them, and after it a
     message of TEI management in words."""
@@ -466,8 +507,10 @@ def _turned() -> bytes:
 
 @dataclasses.dataclass(frozen=True)
 class Config:
-    """How large a card is, and the limits of its lines and links, as lapd.h says at lapd_config, in its order."""
+    """How large a card is, and the limits of its lines and links, as lapd.h says at lapd_config, in its order. A terminal's
+    seed is at random, as of random.randrange(65536)."""
 
+    # tools/names: config
     lines: int
     terminals: int
     k: int
@@ -479,9 +522,10 @@ class Config:
     n201: int
     n200: int
     side: Side = Side.NETWORK
-    seed: int = 0  # of a terminal: its first reference number, 0 to 65535, at random, as of random.randrange(65536)
-    sapi: int = 0  # of the second service: 1 to 62; 0 means 16
-    reading: Reading = Reading.PROFILE  # which rows hold where readers of the standard differ
+    seed: int = 0
+    sapi: int = 0
+    reading: Reading = Reading.PROFILE
+    # tools/names: end
 
     def _raw(self) -> _Config:
         """A number that no field of the C struct holds is told as the largest, which is in no range, except of the seed: there
@@ -497,10 +541,12 @@ class Config:
 
 
 # One line, as the network's side; as lapd.h says at LAPD_BASIC_ACCESS. Others are dataclasses.replace(BASIC_ACCESS, lines=4, ..).
+# tools/names: usual_configs
 BASIC_ACCESS = Config(lines=1, terminals=8, k=1, k16=3, queue=8, unit_queue=4, control=4, slots=132, n201=260, n200=3,
                       reading=Reading.ANNEX_B)
 PRIMARY_RATE = Config(lines=1, terminals=1, k=7, k16=7, queue=8, unit_queue=4, control=4, slots=20, n201=260, n200=3,
                       reading=Reading.ANNEX_B)
+# tools/names: end
 
 
 class Note(NamedTuple):
@@ -578,6 +624,19 @@ class Link(NamedTuple):
     state: State
 
 
+class Fields(NamedTuple):
+    """What a frame says."""
+
+    kind: FrameKind
+    command: bool  # or a response
+    sapi: int
+    tei: int
+    bit: bool  # P of a command, F of a response
+    ns: Optional[int]  # N(S) of an I frame
+    nr: Optional[int]  # N(R) of an I frame, RR, RNR or REJ
+    information: bytes
+
+
 class Room(NamedTuple):
     """How many more contents find a slot of the card and a place of the link's queue, and the link's V(A)."""
 
@@ -589,11 +648,13 @@ class Room(NamedTuple):
 class LinkCounters(NamedTuple):
     """What was counted of a link; each number stays at 65535."""
 
+    # tools/names: counted
     sent_again: int
     t200_expired: int
     rejects_sent: int
     rejects_received: int
     established: int
+    # tools/names: end
 
 
 class Head(NamedTuple):
@@ -810,7 +871,7 @@ class AnyCard(_Owner):
         """What was counted of a link since its TEI came to the line, or it was given up by `deactivate` or `line_down`."""
         of = _LinkCounters()
         _call("lapd_link_counters", self._at, line, *_link(service, tei), ctypes.byref(of))
-        return LinkCounters(of.sent_again, of.t200_expired, of.rejects_sent, of.rejects_received, of.established)
+        return LinkCounters(*(getattr(of, it) for it in LinkCounters._fields))
 
     def _number(self, name: str) -> int:
         number = ctypes.c_uint32()
@@ -936,6 +997,12 @@ class _Timed(AnyCard):
         made; each tells what it led to. So nobody forgets to tell the time. Take all of them in turn, as of fall_due."""
         yield from self.fall_due(now)
         yield call(*words, **named)
+
+    def now(self) -> int:
+        """The moment that was told last, or that of its image; 0 before."""
+        moment = ctypes.c_uint64()
+        _call("lapd_now", self._at, ctypes.byref(moment))
+        return moment.value
 
     def next_moment(self) -> Optional[int]:
         """The moment of the timer that falls due first; None where none runs."""

@@ -188,7 +188,8 @@ static void force_down(line *own, link_record *link) {
     log_limited(LOG_WARN, "line %u: TEI %u: the gateway releases the link, as contents are lost", own->identifier, link->tei);
     gives_up_waiting(link);
     link->reason = IUA_BY_MANAGEMENT;
-    /* While it is being established it can only be deactivated. */
+    /* While it is being established annex B keeps the release, and carries it out as UA comes. If that is refused, too, the link is
+     * deactivated. */
     if (card_ask(own->card, own->at, LAPD_RELEASE, link->service, link->tei, NULL, 0) != LAPD_OK)
         (void)card_ask(own->card, own->at, LAPD_DEACTIVATE, link->service, link->tei, NULL, 0);
 }

@@ -126,6 +126,13 @@ LAPD_INLINE_STATUS lapd_checked_fall_due(lapd_card *card, uint64_t now, lapd_rep
 }
 #define lapd_fall_due lapd_checked_fall_due
 
+LAPD_INLINE_STATUS lapd_checked_now(lapd_card *card, uint64_t *moment) {
+    if (card == LAPD_NULL || moment == LAPD_NULL)
+        return LAPD_WRONG_POINTER;
+    return lapd_now(card, moment);
+}
+#define lapd_now lapd_checked_now
+
 LAPD_INLINE_STATUS lapd_checked_next_moment(lapd_card *card, uint64_t *moment) {
     if (card == LAPD_NULL || moment == LAPD_NULL)
         return LAPD_WRONG_POINTER;
@@ -251,6 +258,14 @@ LAPD_INLINE_STATUS lapd_checked_card_restore(lapd_card *card, const uint8_t *ima
     return lapd_card_restore(card, image == LAPD_NULL ? &no_octet : image, length);
 }
 #define lapd_card_restore lapd_checked_card_restore
+
+LAPD_INLINE_STATUS lapd_checked_frame_read(const uint8_t *octets, size_t length, uint16_t side, lapd_fields *fields) {
+    static uint8_t no_octet = 0;
+    if ((octets == LAPD_NULL && length != 0) || fields == LAPD_NULL)
+        return LAPD_WRONG_POINTER;
+    return lapd_frame_read(octets == LAPD_NULL ? &no_octet : octets, length, side, fields);
+}
+#define lapd_frame_read lapd_checked_frame_read
 
 LAPD_INLINE_STATUS lapd_checked_frame_text(const uint8_t *octets, size_t length, uint16_t side, char *text,
                                            size_t room) {

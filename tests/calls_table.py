@@ -42,6 +42,7 @@ RECORDS = {
     'lapd_exchange': 'IsCallOf of_octets line None',
     'lapd_fall_due': 'IsMomentCall',
     'lapd_next_moment': 'IsQuestion of_any',
+    'lapd_now': 'IsQuestion of_any',
     'lapd_changed_at': 'IsQuestion of_any',
     'lapd_next_link': 'IsQuestion of_any',
     'lapd_counters': 'IsQuestion of_any',
@@ -69,7 +70,7 @@ RECORDS = {
     'lapd_clock_restore': 'IsClockRestore image.now',
 }
 LEAVES = re.compile(r' handle\.old handle\.new result(?: (\w+)\.old \1\.new| \((\w+)\.old, (\w+)\.old\) \(\2\.new, \3\.new\))?')
-ALONE = 'lapd_version', 'lapd_frame_text', 'lapd_image_octets'
+ALONE = 'lapd_version', 'lapd_frame_read', 'lapd_frame_text', 'lapd_image_octets'
 REQUIRES = {'{ IsHandle handle.old }'}
 MOST = 3
 ASKS = re.compile(r'\(?(?:of_\w+ )?(?:\(Some line\) |None )?\(?(\w+_(?:asked|of|from))\b')

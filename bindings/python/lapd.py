@@ -110,6 +110,10 @@ class Status(enum.IntEnum):
     BAD_READING = 45
     BAD_RESERVED = 47
     BAD_IMAGE = 46
+    FRAME_SHORT = 48
+    FRAME_EXTENSION = 49
+    FRAME_UNDEFINED = 50
+    FRAME_SIZE = 51
     # tools/names: end
 
     @classmethod
@@ -194,6 +198,24 @@ class Cause(enum.IntEnum):
 
     def __str__(self) -> str:
         return _text(library().lapd_cause_text(self))
+
+
+class FrameKind(enum.IntEnum):
+    """The frames of table 5."""
+
+    # tools/names: LAPD_KIND_I
+    KIND_I = 1
+    KIND_RR = 2
+    KIND_RNR = 3
+    KIND_REJ = 4
+    KIND_SABME = 5
+    KIND_DISC = 6
+    KIND_UI = 7
+    KIND_UA = 8
+    KIND_DM = 9
+    KIND_FRMR = 10
+    KIND_XID = 11
+    # tools/names: end
 
 
 class Request(enum.IntEnum):
@@ -321,6 +343,14 @@ class _Head(ctypes.Structure):
     # tools/names: end
 
 
+class _Fields(ctypes.Structure):
+    # tools/names: lapd_fields
+    _fields_ = [("kind", ctypes.c_uint8), ("command", ctypes.c_uint8), ("sapi", ctypes.c_uint8), ("tei", ctypes.c_uint8),
+                ("bit", ctypes.c_uint8), ("ns", ctypes.c_uint8), ("nr", ctypes.c_uint8), ("start", ctypes.c_uint8),
+                ("info", ctypes.c_uint16), ("reserved", ctypes.c_uint8 * 6)]
+    # tools/names: end
+
+
 class _Counters(ctypes.Structure):
     # tools/names: lapd_counters
     _fields_ = [("values", ctypes.c_uint64 * 79), ("reserved", ctypes.c_uint64 * 17)]
@@ -351,7 +381,7 @@ _TAKES: Dict[str, List[Any]] = {
     "lapd_card_start_timed": [_AT, _AT, _AT], "lapd_card_start_frames_timed": [_AT, _AT, _AT],
     "lapd_card_save": [_AT, _AT, _SIZE, _AT], "lapd_card_restore": [_AT, _AT, _SIZE],
     "lapd_fall_due": [_AT, _U64, _AT], "lapd_next_moment": [_AT, _AT], "lapd_card_set_lengths": [_AT, _AT],
-    "lapd_changed_at": [_AT, _U32, _U8, _U8, _AT],
+    "lapd_changed_at": [_AT, _U32, _U8, _U8, _AT], "lapd_now": [_AT, _AT],
     "lapd_octet": [_AT, _U32, _U8, _AT], "lapd_pull": [_AT, _U32, _AT, _AT],
     "lapd_exchange": [_AT, _U32, _AT, _SIZE, _AT, _SIZE, _AT, _AT],
     "lapd_frame": [_AT, _U32, _AT, _SIZE, _AT], "lapd_frame_failed": [_AT, _U32, _U8, _AT],
@@ -369,6 +399,7 @@ _TAKES: Dict[str, List[Any]] = {
     "lapd_status_text": [_U32], "lapd_note_text": [_AT], "lapd_note_text_of": [_AT, _AT, _AT, _SIZE],
     "lapd_cause_text": [_U8], "lapd_counter_text": [_U32],
     "lapd_turned": [_U8], "lapd_frame_text": [_AT, _SIZE, ctypes.c_uint16, _AT, _SIZE],
+    "lapd_frame_read": [_AT, _SIZE, ctypes.c_uint16, _AT],
 }
 _ANSWERS: Dict[str, Any] = {**{f"lapd_{it}_text": ctypes.c_char_p for it in ("status", "note", "cause", "counter")},
                             "lapd_turned": ctypes.c_uint8, "lapd_version": ctypes.c_uint32, "lapd_image_octets": ctypes.c_uint32}
@@ -445,6 +476,16 @@ def _unless(empty: Status, name: str, *words: Any) -> bool:
 def turned(octets: bytes) -> bytes:
     """Each octet with its bits turned round, bit 1 as bit 8: for a controller that has the bit that came first as bit 8."""
     return _octets(octets).translate(_turned())
+
+
+def frame_read(octets: bytes, side: Side = Side.USER) -> "Fields":
+    """What octets say as a frame, without a check, as a side sent them, by the grammar by which a card reads. If they are none, an
+    Error says why: FRAME_SHORT, FRAME_EXTENSION, FRAME_UNDEFINED or FRAME_SIZE."""
+    octets, told = _octets(octets), _Fields()
+    _call("lapd_frame_read", octets, len(octets), side, ctypes.byref(told))
+    kind = FrameKind(told.kind)
+    ns, nr = (told.ns if kind is FrameKind.KIND_I else None), (told.nr if kind <= FrameKind.KIND_REJ else None)
+    return Fields(kind, bool(told.command), told.sapi, told.tei, bool(told.bit), ns, nr, octets[told.start:])
 
 
 def frame_text(octets: bytes, side: Side = Side.USER) -> str:
@@ -581,6 +622,19 @@ class Link(NamedTuple):
     service: Service
     tei: int
     state: State
+
+
+class Fields(NamedTuple):
+    """What a frame says."""
+
+    kind: FrameKind
+    command: bool  # or a response
+    sapi: int
+    tei: int
+    bit: bool  # P of a command, F of a response
+    ns: Optional[int]  # N(S) of an I frame
+    nr: Optional[int]  # N(R) of an I frame, RR, RNR or REJ
+    information: bytes
 
 
 class Room(NamedTuple):
@@ -943,6 +997,12 @@ class _Timed(AnyCard):
         made; each tells what it led to. So nobody forgets to tell the time. Take all of them in turn, as of fall_due."""
         yield from self.fall_due(now)
         yield call(*words, **named)
+
+    def now(self) -> int:
+        """The moment that was told last, or that of its image; 0 before."""
+        moment = ctypes.c_uint64()
+        _call("lapd_now", self._at, ctypes.byref(moment))
+        return moment.value
 
     def next_moment(self) -> Optional[int]:
         """The moment of the timer that falls due first; None where none runs."""

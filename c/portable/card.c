@@ -322,28 +322,51 @@ uint32_t lapd_exchange(lapd_card *card, uint32_t line, const uint8_t *in, size_t
 }
 #endif
 
-#ifndef LAPD_NO_TEXT
 /* What a null pointer to no octets is taken for. */
 static const uint8_t no_octet = 0;
 
-/* What octets say is said by a machine of its own on the stack, as no card is needed. */
+/* What octets say is said by a machine of its own on the stack, as no card is needed. They stand first of what is handed over. */
+enum { MOST_OCTETS = 1029, OCTETS = OTHER, AFTER_OCTETS = OCTETS + 1040 };
+#define MACHINE_OF(octets) union { own first; u8 room[sizeof(own) + (octets) + BEHIND]; } ALIGNED
+#define MACHINE_IN(of) ((of).room + sizeof(own))
+
+/* Such a machine begins, with octets of which it is handed at most one more than it takes: so many. */
+static size_t begin(machine *instance, u32 end, const uint8_t *octets, size_t length) {
+    size_t count = at_most(length, MOST_OCTETS);
+    memset(instance, 0, end);
+    OWN(instance)->octets = end;
+    init_globals(instance);
+    init_memories(instance);
+    memcpy(instance + OCTETS, octets, count);
+    return count;
+}
+
+uint32_t lapd_frame_read(const uint8_t *octets, size_t length, uint16_t side, lapd_fields *fields) {
+    enum { FIELDS = AFTER_OCTETS, END = FIELDS + 16 };
+    MACHINE_OF(END) of;
+    machine *instance = MACHINE_IN(of);
+    if (octets == NULL && length == 0)
+        octets = &no_octet;
+    if (octets == NULL || fields == NULL)
+        return LAPD_WRONG_POINTER;
+    size_t count = begin(instance, END, octets, length);
+    u32 status = w2c_lapd_frame_read(instance, OCTETS, count, side, FIELDS);
+    if (status == LAPD_OK)
+        get_lapd_fields(instance, FIELDS, fields);
+    return status;
+}
+
+#ifndef LAPD_NO_TEXT
 uint32_t lapd_frame_text(const uint8_t *octets, size_t length, uint16_t side, char *text, size_t room) {
-    enum { MOST_OCTETS = 1029, MOST_TEXT = 2176, OCTETS = OTHER, TEXT = OCTETS + 1040, END = TEXT + MOST_TEXT };
-    union {
-        own first;
-        u8 room[sizeof(own) + END + BEHIND];
-    } ALIGNED of;
-    machine *instance = of.room + sizeof(own);
+    enum { MOST_TEXT = 2176, TEXT = AFTER_OCTETS, END = TEXT + MOST_TEXT };
+    MACHINE_OF(END) of;
+    machine *instance = MACHINE_IN(of);
     if (octets == NULL && length == 0)
         octets = &no_octet;
     if (octets == NULL || (text == NULL && room != 0))
         return LAPD_WRONG_POINTER;
-    memset(instance, 0, END);
-    OWN(instance)->octets = END;
-    init_globals(instance);
-    init_memories(instance);
-    memcpy(instance + OCTETS, octets, at_most(length, MOST_OCTETS));
-    u32 status = w2c_lapd_frame_text(instance, OCTETS, at_most(length, MOST_OCTETS), side, TEXT, at_most(room, MOST_TEXT));
+    size_t count = begin(instance, END, octets, length);
+    u32 status = w2c_lapd_frame_text(instance, OCTETS, count, side, TEXT, at_most(room, MOST_TEXT));
     for (size_t i = 0; status == LAPD_OK && i < at_most(room, MOST_TEXT); i++) {
         text[i] = (char)instance[TEXT + i];
         if (text[i] == 0)

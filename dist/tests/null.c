@@ -16,6 +16,7 @@ static struct {
     lapd_clock at_lapd_clock;
     lapd_config at_lapd_config;
     lapd_due at_lapd_due;
+    lapd_fields at_lapd_fields;
     lapd_head at_lapd_head;
     lapd_lengths at_lapd_lengths;
     lapd_link at_lapd_link;
@@ -176,6 +177,12 @@ void check_null(void) {
     wants(lapd_fall_due(&card, 0, NULL) == LAPD_WRONG_POINTER && memcmp(&own, &was, sizeof own) == 0,
           "lapd_fall_due with null for report");
     fresh();
+    wants(lapd_now(NULL, &own.at_uint64_t) == LAPD_WRONG_POINTER && memcmp(&own, &was, sizeof own) == 0,
+          "lapd_now with null for card");
+    fresh();
+    wants(lapd_now(&card, NULL) == LAPD_WRONG_POINTER && memcmp(&own, &was, sizeof own) == 0,
+          "lapd_now with null for moment");
+    fresh();
     wants(lapd_next_moment(NULL, &own.at_uint64_t) == LAPD_WRONG_POINTER && memcmp(&own, &was, sizeof own) == 0,
           "lapd_next_moment with null for card");
     fresh();
@@ -289,6 +296,12 @@ void check_null(void) {
     fresh();
     wants(lapd_card_restore(&card, NULL, 1) == LAPD_WRONG_POINTER && memcmp(&own, &was, sizeof own) == 0,
           "lapd_card_restore with null for image");
+    fresh();
+    wants(lapd_frame_read(NULL, 1, 0, &own.at_lapd_fields) == LAPD_WRONG_POINTER && memcmp(&own, &was, sizeof own) == 0,
+          "lapd_frame_read with null for octets");
+    fresh();
+    wants(lapd_frame_read(&own.at_uint8_t, 1, 0, NULL) == LAPD_WRONG_POINTER && memcmp(&own, &was, sizeof own) == 0,
+          "lapd_frame_read with null for fields");
     fresh();
     wants(lapd_frame_text(NULL, 1, 0, &own.at_char, 1) == LAPD_WRONG_POINTER && memcmp(&own, &was, sizeof own) == 0,
           "lapd_frame_text with null for octets");
@@ -536,6 +549,9 @@ void check_null(void) {
     fresh();
     wants(lapd_card_restore(&card, NULL, 0) == lapd_card_restore(&card, &own.at_uint8_t, 0),
           "lapd_card_restore with null for no octets of image");
+    fresh();
+    wants(lapd_frame_read(NULL, 0, 0, &own.at_lapd_fields) == lapd_frame_read(&own.at_uint8_t, 0, 0, &own.at_lapd_fields),
+          "lapd_frame_read with null for no octets of octets");
     fresh();
     wants(lapd_frame_text(NULL, 0, 0, &own.at_char, 0) == lapd_frame_text(&own.at_uint8_t, 0, 0, &own.at_char, 0),
           "lapd_frame_text with null for no octets of octets");

@@ -1,6 +1,7 @@
 /* A script's lines as words, numbers and octets: see words.h. */
 #include "words.h"
 
+#include <stddef.h>
 #include <stdio.h>
 #include <string.h>
 
@@ -24,6 +25,7 @@ typedef struct {
 enum { ANY = 65535, MOST_TEI = 255 };
 
 static const meaning meanings[] = {
+    /* tools/names: words */
     {"rx", RX, 0, 0, 1, true, 0, ANY},
     {"in", IN, 0, 0, 1, true, 0, ANY},
     {"pull", PULL, 0, 0, 2, false, 1, 4096},
@@ -56,7 +58,31 @@ static const meaning meanings[] = {
     {"deactivate16", REQUEST, LAPD_DEACTIVATE, LAPD_PACKET, 2, false, 0, MOST_TEI},
     {"data16", REQUEST, LAPD_DATA, LAPD_PACKET, 2, true, 0, MOST_TEI},
     {"unit16", REQUEST, LAPD_UNIT, LAPD_PACKET, 2, true, 0, MOST_TEI},
+    /* tools/names: end */
 };
+
+/* A word that may stand at the end of a card line, from a place on, with so many words after it. It sets a field by how many
+ * these are, and the word after it says a number. */
+typedef struct {
+    const char *word;
+    size_t from_place, least, most, field, number;
+    uint16_t names[2];
+} ending;
+
+/* tools/names: card_line */
+enum { LEAST_NUMBERS = 9, IF_LEFT_OUT = 2, MOST_WORDS = 17 };
+static const size_t numbers[] = {offsetof(lapd_config, lines), offsetof(lapd_config, terminals),
+                                 offsetof(lapd_config, k), offsetof(lapd_config, queue),
+                                 offsetof(lapd_config, unit_queue), offsetof(lapd_config, control),
+                                 offsetof(lapd_config, slots), offsetof(lapd_config, n201), offsetof(lapd_config, n200),
+                                 offsetof(lapd_config, k16)};
+static const ending endings[] = {
+    {"user", 9, 0, 1, offsetof(lapd_config, side), offsetof(lapd_config, seed), {LAPD_USER, LAPD_TERMINAL}},
+    {"sapi", 0, 1, 1, offsetof(lapd_config, sapi), offsetof(lapd_config, sapi), {0, 0}},
+    {"annex-b", 0, 0, 0, offsetof(lapd_config, reading), offsetof(lapd_config, reading), {LAPD_ANNEX_B, 0}},
+};
+/* tools/names: end */
+enum { MOST_NUMBERS = sizeof numbers / sizeof *numbers, ENDINGS = sizeof endings / sizeof *endings };
 
 const char *fault_text(fault kind) {
     static const char *const texts[] = {
@@ -113,54 +139,47 @@ static bool read_octets(word w, command *read) {
     return true;
 }
 
-/* Where the word user stands, which is the last of so many or the last but one; else it is their number. */
-static size_t user_among(const word *words, size_t count) {
-    if ((count == 10 || count == 11) && is_word(words[count - 1], "user"))
-        return count - 1;
-    return (count == 11 || count == 12) && is_word(words[count - 2], "user") ? count - 2 : count;
+static void set_field(lapd_config *read, size_t place, uint16_t value) {
+    memcpy((char *)read + place, &value, sizeof value);
 }
 
-static bool read_field(word w, uint16_t *field) {
+/* What is in no range is the greatest number, as 0 would mean what is usual. */
+static fault read_field(word w, lapd_config *read, size_t place, bool is_never_0) {
     uint32_t number;
-    bool is = read_number(w, 0, ANY, &number);
-    *field = (uint16_t)number;
-    return is;
+    fault found = read_number(w, 0, ANY, &number) ? NO_FAULT : BAD_NUMBER;
+    set_field(read, place, is_never_0 && number == 0 ? UINT16_MAX : (uint16_t)number);
+    return found;
 }
 
-/* Nine numbers of a configuration, or ten; the tenth is the window of the second service, else that of call control. */
-static fault read_numbers(const word *words, size_t count, lapd_config *read) {
-    uint16_t *const fields[] = {&read->lines, &read->terminals, &read->k, &read->queue, &read->unit_queue,
-                                &read->control, &read->slots, &read->n201, &read->n200, &read->k16};
-    for (size_t i = 0; i < count; i++)
-        if (!read_field(words[i], fields[i]))
-            return BAD_NUMBER;
-    if (count == 9)
-        read->k16 = read->k;
-    return NO_FAULT;
+/* Where an ending stands, at the end of so many words; else it is their number. */
+static size_t place_of(const ending *it, const word *words, size_t count) {
+    for (size_t more = it->least; more <= it->most; more++)
+        if (count > it->from_place + more && is_word(words[count - 1 - more], it->word))
+            return count - 1 - more;
+    return count;
 }
 
-/* These numbers. The word user may stand after them, of a terminal with its seed, and then sapi with a number. Last may stand
- * annex-b. */
+static fault read_ending(const ending *it, const word *after, size_t count, lapd_config *read) {
+    set_field(read, it->field, it->names[count]);
+    return count == 0 ? NO_FAULT : read_field(*after, read, it->number, it->number == it->field);
+}
+
+/* The numbers of a configuration, and the endings after them, read from the end. */
 static fault read_config(const word *words, size_t count, lapd_config *read) {
-    bool annex_b = count >= 1 && count < MOST_WORDS && is_word(words[count - 1], "annex-b");
-    count -= annex_b;
-    bool has_sapi = count >= 2 && count < MOST_WORDS && is_word(words[count - 2], "sapi");
-    count -= has_sapi ? 2 : 0;
-    const word *sapi = &words[count + 1];
-    size_t user = user_among(words, count);
-    const word *seed = &words[user + 1];
-    bool terminal = user + 2 == count;
-    read->side = terminal ? LAPD_TERMINAL : user < count ? LAPD_USER : LAPD_NETWORK;
-    read->reading = annex_b ? LAPD_ANNEX_B : LAPD_PROFILE;
-    if ((user != 9 && user != 10) || (user == 10 && terminal && is_word(*seed, "user")))
+    fault found = NO_FAULT;
+    if (count >= MOST_WORDS)
         return BAD_NUMBER_OF_WORDS;
-    fault found = read_numbers(words, user, read);
-    if (found == NO_FAULT && terminal && !read_field(*seed, &read->seed))
-        found = BAD_NUMBER;
-    if (found == NO_FAULT && has_sapi && !read_field(*sapi, &read->sapi))
-        found = BAD_NUMBER;
-    if (has_sapi && read->sapi == 0)
-        read->sapi = UINT16_MAX;
+    for (size_t i = ENDINGS; i-- > 0;) {
+        size_t at = place_of(&endings[i], words, count);
+        if (at < count && read_ending(&endings[i], &words[at + 1], count - 1 - at, read) != NO_FAULT)
+            found = BAD_NUMBER;
+        count = at;
+    }
+    if (count < LEAST_NUMBERS || count > MOST_NUMBERS)
+        return BAD_NUMBER_OF_WORDS;
+    for (size_t i = 0; i < MOST_NUMBERS; i++)
+        if (read_field(words[i < count ? i : IF_LEFT_OUT], read, numbers[i], false) != NO_FAULT)
+            found = BAD_NUMBER;
     return found;
 }
 

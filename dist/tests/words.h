@@ -12,7 +12,7 @@
 extern "C" {
 #endif
 
-enum { MOST_LINE = 4096, MOST_WORDS = 17 };
+enum { MOST_LINE = 4096 };
 
 /* What a line can be faulty in, in the order in which it is told. */
 typedef enum {

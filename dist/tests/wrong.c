@@ -23,6 +23,7 @@ static struct {
     lapd_due due;
     lapd_link link;
     lapd_head head;
+    lapd_fields fields;
     struct lapd_room room;
     struct lapd_counters counters;
     struct lapd_link_counters of_link;
@@ -90,6 +91,7 @@ static void no_card(void) {
     ANSWERS(LAPD_NO_CARD, ASK(&none, 0, LAPD_ASSIGN, LAPD_CALL, 64));
     ANSWERS(LAPD_NO_CARD, lapd_line_down(&none, 0, &own.place, &own.report));
     ANSWERS(LAPD_NO_CARD, lapd_fall_due(&none, 0, &own.report));
+    ANSWERS(LAPD_NO_CARD, lapd_now(&none, &own.moment));
     ANSWERS(LAPD_NO_CARD, lapd_next_moment(&none, &own.moment));
     ANSWERS(LAPD_NO_CARD, lapd_changed_at(&none, 0, LAPD_CALL, 64, &own.moment));
     ANSWERS(LAPD_NO_CARD, lapd_card_set_lengths(&none, &lengths));
@@ -145,6 +147,7 @@ static void wrong_card(void) {
     ANSWERS(LAPD_WRONG_CARD, lapd_next_frame(&card, 0, own.out, sizeof own.out, &own.length, &own.report));
     ANSWERS(LAPD_WRONG_CARD, lapd_next_waiting(&card, 0, &own.number));
     ANSWERS(LAPD_WRONG_CARD, lapd_fall_due(&card, 0, &own.report));
+    ANSWERS(LAPD_WRONG_CARD, lapd_now(&card, &own.moment));
     ANSWERS(LAPD_WRONG_CARD, lapd_next_moment(&card, &own.moment));
     ANSWERS(LAPD_WRONG_CARD, lapd_changed_at(&card, 0, LAPD_CALL, 64, &own.moment));
     ANSWERS(LAPD_WRONG_CARD, lapd_card_set_lengths(&card, &too_short));
@@ -177,6 +180,9 @@ static void wrong_words(void) {
     ANSWERS(LAPD_NO_FRAME, lapd_next_waiting(&timed, 0, &own.number));
     ANSWERS(LAPD_NO_TIMER, lapd_next_moment(&timed, &own.moment));
     ANSWERS(LAPD_REFUSED_NO_LINK, lapd_changed_at(&timed, 0, LAPD_CALL, 64, &own.moment));
+    ANSWERS(LAPD_WRONG_LENGTH, lapd_frame_read(octets, 1029, LAPD_USER, &own.fields));
+    ANSWERS(LAPD_BAD_SIDE, lapd_frame_read(octets, 3, 3, &own.fields));
+    ANSWERS(LAPD_FRAME_SHORT, lapd_frame_read(octets, 2, LAPD_USER, &own.fields));
     ANSWERS(LAPD_WRONG_LENGTH, lapd_frame_text(octets, 1029, LAPD_USER, own.text, sizeof own.text));
     ANSWERS(LAPD_WRONG_LENGTH, lapd_frame_text(octets, 3, LAPD_USER, own.text, 4));
     ANSWERS(LAPD_BAD_SIDE, lapd_frame_text(octets, 3, 3, own.text, sizeof own.text));
@@ -232,30 +238,44 @@ static void wrong_clock(void) {
 }
 
 /* The configuration with another value of the field at this place. */
-static lapd_config with(unsigned at, unsigned value) {
+static lapd_config with(size_t at, unsigned value) {
     lapd_config it = of_card;
     uint16_t field = (uint16_t)value;
-    memcpy((char *)&it + at * sizeof field, &field, sizeof field);
+    memcpy((char *)&it + at, &field, sizeof field);
     return it;
 }
 
 /* No card and no clock begins with a field out of range, by one too little and by one too much, nor with a reserved place that is
  * used. */
 static void bad_fields(void) {
-    enum { FIELDS = 14, AT_SEED = 11 };
-    static const uint32_t bad[FIELDS] = {LAPD_BAD_LINES, LAPD_BAD_TERMINALS, LAPD_BAD_K, LAPD_BAD_K16, LAPD_BAD_QUEUE,
-                                         LAPD_BAD_UNIT_QUEUE, LAPD_BAD_CONTROL, LAPD_BAD_SLOTS, LAPD_BAD_N201, LAPD_BAD_N200,
-                                         LAPD_BAD_SIDE, 0, LAPD_BAD_SAPI, LAPD_BAD_READING};
-    static const uint16_t least[FIELDS] = {1, 1, 1, 1, 1, 1, 2, 1, 8, 0, 0, 0, 0, 0};
-    static const uint16_t most[FIELDS] = {64, 8, 127, 127, 127, 16, 16, 8192, 260, 10, 2, 65535, 62, 1};
-    for (unsigned at = 0; at < FIELDS; at++) {
-        const lapd_config too_much = with(at, most[at] + 1u), too_little = with(at, least[at] - 1u);
-        if (at != AT_SEED)
-            ANSWERS(bad[at], lapd_card_start(&none, &too_much));
-        if (least[at] > 0)
-            ANSWERS(bad[at], lapd_clock_start(&no_clock, &too_little));
+    static const struct {
+        size_t at;
+        unsigned least, most;
+        uint32_t status;
+    } fields[] = {
+        /* tools/names: edges */
+        {offsetof(lapd_config, lines), 1, 64, LAPD_BAD_LINES},
+        {offsetof(lapd_config, terminals), 1, 8, LAPD_BAD_TERMINALS},
+        {offsetof(lapd_config, k), 1, 127, LAPD_BAD_K},
+        {offsetof(lapd_config, k16), 1, 127, LAPD_BAD_K16},
+        {offsetof(lapd_config, queue), 1, 127, LAPD_BAD_QUEUE},
+        {offsetof(lapd_config, unit_queue), 1, 16, LAPD_BAD_UNIT_QUEUE},
+        {offsetof(lapd_config, control), 2, 16, LAPD_BAD_CONTROL},
+        {offsetof(lapd_config, slots), 1, 8192, LAPD_BAD_SLOTS},
+        {offsetof(lapd_config, n201), 8, 260, LAPD_BAD_N201},
+        {offsetof(lapd_config, n200), 0, 10, LAPD_BAD_N200},
+        {offsetof(lapd_config, sapi), 0, 62, LAPD_BAD_SAPI},
+        {offsetof(lapd_config, side), 0, LAPD_TERMINAL, LAPD_BAD_SIDE},
+        {offsetof(lapd_config, reading), 0, LAPD_ANNEX_B, LAPD_BAD_READING},
+        /* tools/names: end */
+    };
+    for (size_t i = 0; i < sizeof fields / sizeof *fields; i++) {
+        const lapd_config too_much = with(fields[i].at, fields[i].most + 1), too_little = with(fields[i].at, fields[i].least - 1);
+        ANSWERS(fields[i].status, lapd_card_start(&none, &too_much));
+        if (fields[i].least > 0)
+            ANSWERS(fields[i].status, lapd_clock_start(&no_clock, &too_little));
     }
-    for (unsigned at = FIELDS; at < sizeof(lapd_config) / sizeof(uint16_t); at++) {
+    for (size_t at = offsetof(lapd_config, reserved); at < sizeof(lapd_config); at += sizeof(uint16_t)) {
         const lapd_config later = with(at, 1);
         ANSWERS(LAPD_BAD_RESERVED, lapd_card_start(&none, &later));
     }

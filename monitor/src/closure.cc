@@ -60,6 +60,8 @@ bool Closure::close(Set &set, Time now, bool goes_down) {
         Outcome outcome;
         if (rows.gives_up(it, now, outcome))
             add(set, timed(outcome, now, now).after);
+        if (rows.asks_in_5(it, outcome))
+            add(set, timed(outcome, now, now).after);
         if (goes_down && it.s.state != 4) {
             Possible begun = it;
             begun.s = State{};

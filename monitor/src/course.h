@@ -18,9 +18,10 @@ class Course {
     Course &t203() { return start(Timer::t203); }
     Course &no_timer() { s().timer = Timer::none; return *this; }
     // In states 4 to 6 the flags and numbers mean nothing: each way from there to state 7 clears the flags, and zeroes. Outside of
-    // states 5, 6 and 8 RC means nothing.
+    // states 5, 6 and 8 RC means nothing. A release is owed in state 5 alone.
     Course &enter(uint8_t state) {
         s().state = state;
+        s().owed = false;
         if (state <= 6)
             clear_flags().zero();
         return state == 4 || state == 7 ? rc(0) : *this;

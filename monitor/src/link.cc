@@ -9,7 +9,8 @@ namespace {
 
 constexpr size_t MOST_FRAMES_TOLD = 5, MOST_ROWS = 1000;
 
-// Whether the readings may differ as this frame comes, or goes (docs/MACHINE.md, "Two readings").
+// Whether the readings may differ as this frame comes, or goes (docs/MACHINE.md, "Two readings"). A release in state 5 sends
+// what one in state 7 does, right after UA: by that no frame tells them apart.
 bool may_differ_heard(const Frame &frame, const Terms &terms) {
     return (frame.kind == Kind::dm && !frame.pf) || (frame.kind == Kind::ui && frame.length > terms.n201);
 }

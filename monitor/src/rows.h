@@ -52,6 +52,8 @@ class Rows {
     void own(const Possible &it, const Frame &sent, Time now, bool near, Outcomes &out) const;
     // T200 ends an establishment or a release, and nothing is sent. False: it can't have.
     bool gives_up(const Possible &it, Time now, Outcome &out) const;
+    // Layer 3 asks in state 5, by annex B, and nothing is sent: a release is owed, or owed no more. False: it is refused.
+    bool asks_in_5(const Possible &it, Outcome &out) const;
 
     // The timer that runs may have expired by now.
     bool is_due(const Possible &it, Time now) const;

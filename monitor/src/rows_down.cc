@@ -28,6 +28,9 @@ void Rows::state_5(const Possible &it, const Frame &frame, Outcomes &out) const 
         Course(it, "state 5: SABME").response(Kind::ua, frame.pf).into(out);
     else if (frame.kind == Kind::disc)
         Course(it, "state 5: DISC").response(Kind::dm, frame.pf).into(out);
+    else if (frame.kind == Kind::ua && frame.pf && it.s.owed)
+        Course(it, "state 5: UA F=1, a release is owed").command(Kind::disc, true).rc(none_repeated(it.s)).t200().enter(6)
+            .into(out);
     else if (frame.kind == Kind::ua && frame.pf)
         Course(it, "state 5: UA F=1").zero().t203().enter(7).into(out);
     else if (frame.kind == Kind::dm && frame.pf)

@@ -88,6 +88,15 @@ void Rows::enquiry(const Possible &it, Time now, Outcomes &out) const {
 
 // ---- Requests ----
 
+bool Rows::asks_in_5(const Possible &it, Outcome &out) const {
+    if (it.s.state != 5 || it.s.sabme_waits || terms.reading != Reading::annex_b)
+        return false;
+    Course course(it, it.s.owed ? "state 5: establish" : "state 5: release");
+    course.s().owed = !it.s.owed;
+    out = course.outcome;
+    return true;
+}
+
 void Rows::requests(const Possible &it, const Frame &sent, Outcomes &out) const {
     const State &s = it.s;
     if (sent.kind == Kind::sabme && s.state == 4)

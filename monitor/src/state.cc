@@ -50,6 +50,8 @@ std::string in_words(const Possible &it, uint32_t tapped) {
         words += ", reject exception";
     if (s.pending)
         words += ", acknowledgement pending";
+    if (s.owed)
+        words += ", a release is owed";
     if (s.timer != Timer::none)
         words += s.timer == Timer::t200 ? ", T200" : ", T203";
     if (tapped != s.heard)

@@ -27,6 +27,7 @@ struct State {
     uint8_t vs = 0, va = 0, vr = 0;         // 0 to 127, or UNKNOWN
     bool peer_busy = false, own_busy = false, rejecting = false, pending = false;
     bool sabme_waits = false;
+    bool owed = false;                      // by annex B: layer 3 released in state 5, and UA leads to DISC at once
     uint8_t rc = 0;                         // 0 to MOST_RC, or UNKNOWN
     Timer timer = Timer::none;
     uint32_t heard = 0;                     // so many frames toward this end came there, or are lost
@@ -39,7 +40,8 @@ struct State {
             | static_cast<uint64_t>(rejecting) << 2 | static_cast<uint64_t>(pending) << 3 | static_cast<uint64_t>(sabme_waits) << 4;
         return static_cast<uint64_t>(state - 4) | static_cast<uint64_t>(vs) << 3 | static_cast<uint64_t>(va) << 11
             | static_cast<uint64_t>(vr) << 19 | flags << 27 | static_cast<uint64_t>(rc & 31) << 32
-            | static_cast<uint64_t>(timer) << 37 | static_cast<uint64_t>(heard & 0xFFFFFF) << 39;
+            | static_cast<uint64_t>(timer) << 37 | static_cast<uint64_t>(heard & 0xFFFFFF) << 39
+            | static_cast<uint64_t>(owed) << 63;
     }
 };
 

@@ -28,19 +28,22 @@ void bound(std::map<int, Time> &asked, std::map<int, int> &wanted) {
 
 } // namespace
 
-// The five octets of a message, and of a check response perhaps more Ai (clauses 5.3.3.2 and 5.3.6, table 8).
+// The five octets of a message, and of a check response perhaps more Ai (clauses 5.3.3.2 and 5.3.6, table 8). Nobody is to send
+// others after these, which annex B's rows do not look at.
 bool Teis::read(const Octets &octets, Fields &fields) const {
     if (octets.size() < SHORTEST || octets[HEAD] != ENTITY)
         return false;
     fields.ri = octets[HEAD + 1] << 8 | octets[HEAD + 2];
     fields.type = octets[HEAD + 3];
     fields.ai = octets[HEAD + 4] >> 1;
-    for (size_t i = HEAD + 4; i < octets.size(); i++) {
+    size_t last = HEAD + 4;
+    while (last < octets.size() && (octets[last] & 1) == 0)
+        last++;
+    if (last == octets.size())
+        return false;
+    for (size_t i = HEAD + 4; i <= last; i++)
         fields.more.push_back(octets[i] >> 1);
-        bool is_last = (octets[i] & 1) != 0;
-        if (is_last != (i + 1 == octets.size()))
-            return false;
-    }
+    fields.is_longer = last + 1 < octets.size();
     bool may_be_several = fields.type == static_cast<int>(Message::response) && fields.more.size() <= MOST_AI;
     return fields.type >= 1 && fields.type <= 7 && (fields.more.size() == 1 || may_be_several);
 }
@@ -75,6 +78,11 @@ void Teis::frame(const Captured &it, std::vector<Leave> &leaves, std::vector<OfM
         return depart(is_network, GROUP, "no message of TEI management has these octets");
     }
     messages[static_cast<size_t>(fields.type)]++;
+    if (fields.is_longer) {
+        depart(is_network, fields.ai, "octets follow those of the message");
+        if (settings.readings == Readings::profile)
+            return;
+    }
     if (is_networks(fields.type) != is_network)
         return depart(is_network, fields.ai, "a message that only the other side sends");
     switch (static_cast<Message>(fields.type)) {

@@ -70,6 +70,7 @@ class Teis {
     struct Fields {
         int ri, type, ai;
         std::vector<int> more; // Ai of a check response of several
+        bool is_longer = false; // octets follow that are no part of it
     };
 
     bool read(const Octets &octets, Fields &fields) const;

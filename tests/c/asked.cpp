@@ -62,6 +62,9 @@ void asks_words() {
     wants(lapd::frame_text(sabme, LAPD_USER, text) == status::ok && std::strcmp(text, "sapi 0 tei 64 command sabme p 1 info -") == 0, "a frame in words");
     wants(lapd::frame_text(sabme, LAPD_USER, lapd::span<char>(text, 10)) == status::wrong_length && text[0] == 's', "words in little room");
     wants(lapd::frame_text({}, LAPD_NETWORK, text) == status::ok && std::strcmp(text, "frame: short") == 0, "no frame in words");
+    lapd_fields fields = {};
+    wants(lapd::frame_read(sabme, LAPD_USER, fields) == status::ok && fields.kind == LAPD_KIND_SABME && fields.tei == 64 && fields.bit == 1, "a frame in fields");
+    wants(lapd::frame_read({}, LAPD_NETWORK, fields) == status::frame_short && fields.tei == 64, "no frame in fields");
     const lapd_note packet = {LAPD_ERROR_INDICATION, LAPD_PACKET, 64, 'F', {}};
     lapd_config of = config;
     of.sapi = 62;
@@ -136,7 +139,7 @@ void asks_timers(lapd::any_card &card) {
     lapd::report report;
     uint64_t moment = 7;
     wants(card.fall_due(0, report) == status::no_timer && card.next_moment(moment) == status::no_timer && moment == 7, "no timer of its own");
-    wants(card.assign(1, 64, report) == status::ok && card.fall_due(5000, report) == status::no_timer, "time");
+    wants(card.assign(1, 64, report) == status::ok && card.fall_due(5000, report) == status::no_timer && card.now(moment) == status::ok && moment == 5000, "time");
     wants(card.fall_due(4999, report) == status::wrong_time && card.fall_due(uint64_t{1} << 63, report) == status::wrong_time, "wrong times");
     wants(card.establish(1, service::call, 64, report) == status::ok && report.orders().empty() && report.line() == 1 && !report.expired(), "a request without orders");
     wants(card.changed_at(1, service::call, 64, moment) == status::ok && moment == 5000 && card.changed_at(1, service::packet, 64, moment) == status::ok && moment == 0, "a state has changed");

@@ -11,11 +11,12 @@
 enum { TEI = 5, WIRE = 512, SEEDS = 2000, STEPS = 1500 };
 enum { NONE = 0, SABME = 0x6F, DISC = 0x43, DM = 0x0F, UA = 0x63, RR = 0x01, REJ = 0x09 };
 
-/* What was seen of the link of a card; how many I-frames had a new number since it was established; and whether T200 runs. */
+/* What was seen of the link of a card; how many I-frames had a new number since it was established; whether T200 runs; and, by
+ * annex B, whether a release was granted in state 5, which UA then does not establish. */
 typedef struct seen {
     struct lapd_link_counters counts;
     unsigned numbers;
-    bool runs_t200;
+    bool runs_t200, is_owed;
 } seen;
 
 typedef struct sent {
@@ -29,6 +30,7 @@ static sent wires[2][WIRE]; /* those that come to a card */
 static unsigned first[2], last[2];
 static lapd_report report;
 static struct lapd_link_counters total;
+static unsigned owed; /* releases */
 static uint64_t drawn;
 static int failed;
 
@@ -42,6 +44,12 @@ static void wants(bool is, const char *what, unsigned seed, unsigned step) {
         fprintf(stderr, "link_counts_seen: seed %u, step %u: %s\n", seed, step, what);
 }
 
+static uint8_t state_of(int card) {
+    uint8_t state = 0;
+    (void)!lapd_state(&cards[card], 0, LAPD_CALL, TEI, &state);
+    return state;
+}
+
 /* The orders of the report. */
 static void carries_out(seen *of) {
     for (unsigned i = 0; i < report.order_count; i++)
@@ -50,12 +58,11 @@ static void carries_out(seen *of) {
 }
 
 static void hears(int card, const uint8_t *octets, size_t length) {
-    uint8_t state = 0, kind = length == 3 && (octets[2] & 3) == 3 ? octets[2] & 0xEF : NONE;
+    uint8_t state = state_of(card), kind = length == 3 && (octets[2] & 3) == 3 ? octets[2] & 0xEF : NONE;
     bool final = (octets[2] & 0x10) != 0;
-    (void)!lapd_state(&cards[card], 0, LAPD_CALL, TEI, &state);
     if (length == 4 && octets[2] == REJ && state >= 7)
         known[card].counts.rejects_received++;
-    if ((kind == SABME && (state == 4 || state >= 7)) || (kind == UA && final && state == 5)) {
+    if ((kind == SABME && (state == 4 || state >= 7)) || (kind == UA && final && state == 5 && !known[card].is_owed)) {
         known[card].counts.established++;
         known[card].numbers = 0;
     }
@@ -96,8 +103,13 @@ static void asks(int card, unsigned step) {
     uint8_t request = draw < 20 ? LAPD_ESTABLISH : draw == 20 ? LAPD_RELEASE : draw < 25 ? LAPD_BUSY : draw < 40 ? LAPD_READY
                                                                                                      : LAPD_DATA;
     size_t length = request == LAPD_DATA ? sizeof contents : 0;
-    if (lapd_request_with(&cards[card], 0, request, LAPD_CALL, TEI, contents, length, &report) == LAPD_OK)
-        carries_out(&known[card]);
+    bool is_in_5 = state_of(card) == 5;
+    if (lapd_request_with(&cards[card], 0, request, LAPD_CALL, TEI, contents, length, &report) != LAPD_OK)
+        return;
+    carries_out(&known[card]);
+    if (is_in_5)
+        known[card].is_owed = request == LAPD_RELEASE;
+    owed += known[card].is_owed;
 }
 
 /* A frame that the other card has not sent, or the link begins anew. */
@@ -146,6 +158,7 @@ static void one_step(unsigned seed, unsigned step, unsigned loss) {
         expires(card);
     else if (below(4) == 0)
         meets(card);
+    known[card].is_owed &= state_of(card) == 5;
     wants(lapd_link_counters(&cards[card], 0, LAPD_CALL, TEI, &told) == LAPD_OK
               && memcmp(&told, &known[card].counts, sizeof told) == 0, "another number than was seen", seed, step);
 }
@@ -165,6 +178,6 @@ int main(void) {
         wants(lapd_card_free(&cards[0]) == LAPD_OK && lapd_card_free(&cards[1]) == LAPD_OK, "a card stays", seed, STEPS);
     }
     wants(total.sent_again > 3 && total.t200_expired > 3 && total.rejects_sent > 3 && total.rejects_received > 3
-              && total.established > 3, "too little was seen", SEEDS, STEPS);
+              && total.established > 3 && owed > 100, "too little was seen", SEEDS, STEPS);
     return failed != 0;
 }

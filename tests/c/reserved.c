@@ -94,6 +94,13 @@ static void questions(lapd_card *card) {
     wants(lapd_link_counters(card, 0, LAPD_CALL, 64, &of_link) == LAPD_OK && IS_UNUSED(of_link), "lapd_link_counters");
 }
 
+static void fields_of_a_frame(void) {
+    static const uint8_t sabme[] = {0x00, 0x81, 0x7F};
+    lapd_fields fields;
+    memset(&fields, 0xAB, sizeof fields);
+    wants(lapd_frame_read(sabme, sizeof sabme, LAPD_USER, &fields) == LAPD_OK && IS_UNUSED(fields), "lapd_frame_read");
+}
+
 /* T200 of a link runs, on a clock and at a card with timers of its own. */
 static void expiries(void) {
     lapd_clock clock = LAPD_CLOCK_NONE;
@@ -164,6 +171,7 @@ int main(void) {
     of_frames(&timed_card);
     for (size_t i = 0; i < PLACES(cards); i++)
         questions(cards[i]);
+    fields_of_a_frame();
     expiries();
     wants(written > 5, "few notes are told");
     configurations();

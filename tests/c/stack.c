@@ -42,6 +42,7 @@ static uint8_t place;
 static lapd_link link;
 static struct lapd_room room;
 static lapd_head head;
+static lapd_fields fields;
 static struct lapd_counters counters;
 static struct lapd_link_counters of_link;
 static char text[LAPD_MOST_TEXT];
@@ -87,6 +88,7 @@ static void timed_start(void) { status = lapd_card_start_timed(&card, &config, &
 static void timed_frames_start(void) { status = lapd_card_start_frames_timed(&card, &config, &lengths); }
 static void fall_due(void) { status = lapd_fall_due(&card, LAPD_LATEST - 1, &report); }
 static void find_moment(void) { status = lapd_next_moment(&card, &moment); }
+static void find_now(void) { status = lapd_now(&card, &moment); }
 static void find_change(void) { status = lapd_changed_at(&card, 0, LAPD_CALL, 64, &moment); }
 static void card_save(void) { status = lapd_card_save(&card, image, sizeof image, &of_image); }
 static void card_restore(void) { status = lapd_card_restore(&other, image, of_image); }
@@ -107,6 +109,7 @@ static void ask_begun_frame(void) { status = lapd_begun_frame(&card, 0, whole, s
 static void ask_heard_frame(void) { status = lapd_heard_frame(&card, 0, whole, sizeof whole, &length); }
 static void ask_counters(void) { status = lapd_counters(&card, 0, &counters); }
 static void ask_of_link(void) { status = lapd_link_counters(&card, 0, LAPD_CALL, 64, &of_link); }
+static void ask_fields(void) { status = lapd_frame_read(frame, sizeof frame, LAPD_USER, &fields); }
 static void ask_text(void) { status = lapd_frame_text(frame, sizeof frame, LAPD_USER, text, sizeof text); }
 static void exchange(void) { status = lapd_exchange(&card, 0, octets, sizeof octets, given, sizeof given, &steps, &report); }
 
@@ -171,6 +174,7 @@ static void frames(bool is_timed, const uint8_t *const *come, const size_t *octe
     if (is_timed) {
         saves("lapd_card_save, own timers", "lapd_card_restore, own timers");
         show("lapd_next_moment", most(0, find_moment));
+        show("lapd_now", most(0, find_now));
         show("lapd_changed_at", most(0, find_change));
         show("lapd_card_set_lengths", most(0, set_lengths));
         show("lapd_fall_due", most(0, fall_due));
@@ -213,6 +217,7 @@ int main(void) {
     show("lapd_counters", most(0, ask_counters));
     show("lapd_link_counters", most(0, ask_of_link));
     frame[1] = 0x81; /* an I-frame */
+    show("lapd_frame_read", within(MOST_OF_TEXT, ask_fields));
     show("lapd_frame_text", within(MOST_OF_TEXT, ask_text));
     saves("lapd_card_save", "lapd_card_restore");
     show("lapd_clock_save", most(0, clock_save));

@@ -187,11 +187,12 @@ static void questions(void) {
     uint32_t number;
     lapd_link link;
     lapd_head head;
+    lapd_fields fields;
     struct lapd_room room;
     struct lapd_counters counters;
     struct lapd_link_counters of_link;
     char text[LAPD_MOST_TEXT];
-    static const uint8_t octets[1029] = {0};
+    static const uint8_t octets[1029] = {0}, frames[][4] = {{0x00, 0x81, 0x7F}, {0x01, 0x81, 0x7F}, {0x00, 0x81, 0xFF}};
     static uint64_t at;
     uint64_t moment;
     if (below(40) == 0)
@@ -212,10 +213,15 @@ static void questions(void) {
     case 12: CALL(lapd_note_text_of, &note, &config, text, below(30)); break;
     case 11: CALL(lapd_fall_due, &card, at += below(9), &report); break;
     case 10:
+        CALL(lapd_now, &card, &moment);
         CALL(lapd_next_moment, &card, &moment);
         CALL(lapd_changed_at, &card, line(), service(), tei(), &moment);
         break;
-    case 9: CALL(lapd_frame_text, octets, below(3) ? 3 : below(1030), (uint16_t)below(4), text, below(2) ? sizeof text : 10); break;
+    case 9:
+        CALL(lapd_frame_read, frames[below(3)], 2 + below(3), (uint16_t)below(4), &fields);
+        CALL(lapd_frame_read, octets, below(1030), LAPD_USER, &fields);
+        CALL(lapd_frame_text, octets, below(3) ? 3 : below(1030), (uint16_t)below(4), text, below(2) ? sizeof text : 10);
+        break;
     case 0: CALL(lapd_state, &card, line(), service(), tei(), &state); break;
     case 1: CALL(lapd_next_link, &card, line(), &place, &link); break;
     case 2: CALL(lapd_room, &card, line(), service(), tei(), &room); break;

@@ -22,7 +22,7 @@ REQUIRED = "TARGETS"
 LONG = 900
 # What lapd.c asks a C library for: compilers call the first three by themselves, and GCC's own helpers begin with __.
 ASKED_FOR = {"memcpy", "memmove", "memset", "abort", "rattle_alloc", "rattle_dealloc"}
-# The stack that calls may take where C's locals stand for the machine's: lapd.h says so of lapd_frame_text.
+# The stack that calls may take where C's locals stand for the machine's: lapd.h says so of lapd_frame_read and lapd_frame_text.
 STACK = ("-DMOST=5120", "-DMOST_OF_START=5120", "-DMOST_OF_RESTORE=5120", "-DMOST_OF_TEXT=24576")
 
 

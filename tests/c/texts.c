@@ -1,6 +1,7 @@
 /*
  * texts.c: what octets say. Each line of standard input has octets as digits, or `-`, and after a space who sent them, 0 or 1;
- * for each its text is printed, which is asked for with all room, with just enough, and with too little. For tests alone.
+ * for each its text is printed, which is asked for with all room, with just enough, and with too little; and what it says in fields
+ * is what the text says. For tests alone.
  */
 #include <stdio.h>
 #include <stdlib.h>
@@ -44,6 +45,36 @@ static void in_little_room(const uint8_t *octets, size_t count, uint16_t side, c
     wants(count > LAPD_MOST_FRAME || octets_of_text <= LAPD_MOST_TEXT, "LAPD_MOST_TEXT is too little", line);
 }
 
+/* The text that these fields of a frame have, up to its information. */
+static void put_fields(const lapd_fields *of, char *to, size_t room) {
+    static const char *const kinds[] = {"", "i", "rr", "rnr", "rej", "sabme", "disc", "ui", "ua", "dm", "frmr", "xid"};
+    char ns[16] = "", nr[16] = "";
+    if (of->kind == LAPD_KIND_I)
+        snprintf(ns, sizeof ns, " ns %u", of->ns);
+    if (of->kind <= LAPD_KIND_REJ)
+        snprintf(nr, sizeof nr, " nr %u", of->nr);
+    snprintf(to, room, "sapi %u tei %u %s %s%s%s %c %u info ", of->sapi, of->tei, of->command ? "command" : "response", kinds[of->kind],
+             ns, nr, of->command ? 'p' : 'f', of->bit);
+}
+
+/* A frame says the same in fields, and what is none is told by the same fault; with no number where it has none. */
+static void in_fields(const uint8_t *octets, size_t count, uint16_t side, const char *whole, const char *line) {
+    lapd_fields fields, was;
+    char text[ROOM];
+    memset(&was, '#', sizeof was);
+    fields = was;
+    uint32_t status = lapd_frame_read(octets, count, side, &fields);
+    wants(lapd_frame_read(octets, count, 3, &was) == LAPD_BAD_SIDE, "no side of fields", line);
+    if (status != LAPD_OK) {
+        wants(strcmp(whole, lapd_status_text(status)) == 0 && memcmp(&fields, &was, sizeof was) == 0, "another fault of fields", line);
+        return;
+    }
+    put_fields(&fields, text, sizeof text);
+    wants(strncmp(whole, text, strlen(text)) == 0 && fields.start + (size_t)fields.info == count && (fields.start == 3 || fields.start == 4)
+              && fields.bit < 2 && fields.command < 2, "other fields", line);
+    wants((fields.kind == LAPD_KIND_I || fields.ns == 0) && (fields.kind <= LAPD_KIND_REJ || fields.nr == 0), "a number that it has not", line);
+}
+
 int main(void) {
     static char line[LINE], text[ROOM];
     static uint8_t octets[LINE];
@@ -56,7 +87,10 @@ int main(void) {
         if (status == LAPD_OK) {
             puts(text);
             in_little_room(octets, count, from, text, digits);
+            in_fields(octets, count, from, text, digits);
         } else {
+            lapd_fields fields;
+            wants(lapd_frame_read(octets, count, from, &fields) == LAPD_WRONG_LENGTH, "fields of too many octets", digits);
             puts("frame: too long");
         }
     }

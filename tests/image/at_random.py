@@ -18,18 +18,20 @@ FULL = ["data 0 64 08{:02X}", "data 0 64 08{:02X}", "data16 0 64 {:02X}", "data1
         "wait {}"]
 # By annex B a check is due, and mostly settles.
 DUE = ["assign 0 64", "assign 0 65", "check 0 64", "in 0 FCFF030F00000783", "wait 2{}00"]
+# By annex B a release is owed.
+OWED = ["assign 0 64", "establish 0 64", "release 0 64"]
 CARDS = ["2 2 7 8 4 4 64 260 3", "2 8 1 8 16 16 8192 260 10", "2 2 3 127 1 2 6 8 1 127", "2 2 7 8 4 4 64 260 3 user", "2 2 7 8 4 4 64 260 3 user 4660",
          "2 2 7 8 4 4 64 260 3 annex-b", "2 2 1 1 1 2 8 8 1", "2 2 1 2 2 4 8 260 2 annex-b", "2 2 1 2 2 4 8 260 2 user 7"]
 
 
 def image_of_run(numbers: random.Random, scripted: Any) -> bytes:
     """The image of a card after a random run: in one of four its links are up, and their queues fill; by annex B, in half of the
-    others a check is due at first."""
+    others a check is due at first, and in half a release is owed."""
     is_timed, kind = numbers.random() < 0.7, numbers.choice(["frames", "frames", "card"])
     station = scripted.Station(is_timed)
     card, is_full = numbers.choice(CARDS), numbers.random() < 0.25
-    due = DUE * (card.endswith("annex-b") and numbers.random() < 0.5)
-    before, words = ([it.format(2 * ("user" in card)) for it in UP], FULL) if is_full else (due, WORDS)
+    first = [*DUE * (numbers.random() < 0.5), *OWED * (numbers.random() < 0.5)] if card.endswith("annex-b") else []
+    before, words = ([it.format(2 * ("user" in card)) for it in UP], FULL) if is_full else (first, WORDS)
     for line in [f"{kind} {card}", *before, *(numbers.choice(words) for _ in range(numbers.randint(0, 60)))]:
         text = line.format(*(numbers.choice((0x7F, 0x01, 0x73, numbers.randrange(10), numbers.randrange(256))) if ":" in line else numbers.randrange(10) for _ in range(4)))
         try:

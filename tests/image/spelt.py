@@ -2,7 +2,7 @@
 from typing import Callable, List, Optional, Tuple, TypeVar
 
 from vithrynel.clock_image import KIND, ClockImage, Running
-from vithrynel.image import FREE, MAGIC, NUMBERS, VERSION, Card, Clock, Config, Line, Link, Message
+from vithrynel.image import FREE, MAGIC, NUMBERS, OWED, VERSION, Card, Clock, Config, Line, Link, Message
 
 T = TypeVar("T")
 
@@ -42,7 +42,7 @@ def teis_spelt(config: Config, line: Line) -> bytes:
 
 
 def link_spelt(it: Link) -> bytes:
-    head = bytes([it.state]) + bits_spelt(it.flags) + bytes([it.rc, it.va, it.outstanding, it.vr, it.again])
+    head = bytes([it.state + OWED * it.owes_release]) + bits_spelt(it.flags) + bytes([it.rc, it.va, it.outstanding, it.vr, it.again])
     control = list_spelt(lambda frame: bytes([frame[0]]) + frame[1], it.control)
     return head + b"".join(spelt(2, n) for n in it.counted) + list_spelt(contents_spelt, it.contents) + control
 

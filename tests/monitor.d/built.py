@@ -9,7 +9,10 @@ ROOT = HERE.parent.parent
 STRICT_C = ['-std=c11', '-Wall', '-Wextra', '-Wpedantic', '-Wconversion', '-Wshadow', '-Werror', '-O2']
 STRICT_CC = ['-std=c++17', '-Wall', '-Wextra', '-Wpedantic', '-Wconversion', '-Wshadow', '-Werror']
 SANITIZED = ['-O1', '-g', '-fsanitize=address,undefined', '-fno-sanitize-recover=all']
-GENERATORS = {'pair': ['pair.c', 'ends.c', 'plain.c', 'faults.c'], 'bus': ['bus.c', 'ends.c', 'plain.c', 'faults.c']}
+PARTS_OF_AN_END = ['frame', 'state', 'set', 'closure', 'rows_down', 'rows_up', 'rows_own', 'watch', 'departure', 'estimates',
+                   'verdict']
+AN_END = ['ends.c', 'plain.c', 'plain_frames.c', 'faults.c']
+GENERATORS = {'pair': ['pair.c', *AN_END], 'bus': ['bus.c', *AN_END]}
 
 
 class Missing(Exception):
@@ -65,19 +68,20 @@ class Built:
             done(['cc', *STRICT_C, '-I%s' % (ROOT / 'dist'), '-o', self.work / name, *[HERE / it for it in files], *library])
 
     def hostile(self):
-        """With sanitizers, by another compiler if it is there; not the library."""
-        self.with_parts('hostile', ['hostile.cc'], 'clang++' if shutil.which('clang++') else 'c++', SANITIZED)
+        """Over all parts but main.cc, with sanitizers, by another compiler if it is there; not the library."""
+        parts = [it.stem for it in (ROOT / 'monitor' / 'src').glob('*.cc') if it.name != 'main.cc']
+        self.with_parts('hostile', ['hostile.cc'], parts, 'clang++' if shutil.which('clang++') else 'c++', SANITIZED)
 
     def rows(self):
-        self.with_parts('rows', ['rows.cc', 'cards.cc'], 'c++', ['-O2'])
+        self.with_parts('rows', ['rows.cc', 'cards.cc'], PARTS_OF_AN_END, 'c++', ['-O2'])
 
-    def with_parts(self, name, files, compiler, flags):
-        """A program over the parts of the monitor, but for main.cc."""
+    def with_parts(self, name, files, parts, compiler, flags):
+        """A program over parts of the monitor."""
         to = self.work / ('parts-' + name)
         to.mkdir(exist_ok=True)
-        parts = [it for it in sorted((ROOT / 'monitor' / 'src').glob('*.cc')) if it.name != 'main.cc']
+        sources = [ROOT / 'monitor' / 'src' / (it + '.cc') for it in sorted(parts)] + [HERE / it for it in files]
         words = ' '.join([compiler, *STRICT_CC, *flags, '-isystem', str(ROOT / 'dist'), '-I%s' % (ROOT / 'monitor' / 'src')])
-        makes = ['%s -c -o %s %s' % (words, to / (it.stem + '.o'), it) for it in [*parts, *[HERE / it for it in files]]]
+        makes = ['%s -c -o %s %s' % (words, to / (it.stem + '.o'), it) for it in sources]
         done(['xargs', '-d', '\n', '-P', self.jobs, '-I{}', 'sh', '-c', '{} || exit 255'], input='\n'.join(makes))
         library = [self.work / 'lapd.o', self.work / 'lapd_malloc.o']
         done([compiler, *flags, '-o', self.work / name, *to.glob('*.o'), *library, '-lpcap'])

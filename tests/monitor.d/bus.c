@@ -140,7 +140,7 @@ static void ask_of_link(lapd_card *card, const lapd_link *link) {
         return;
     if (link->state == 4 && x < 6)
         (void)!lapd_establish(card, 0, LAPD_CALL, link->tei, &report);
-    else if (link->state >= 7 && x < 3)
+    else if ((link->state == 5 || link->state >= 7) && x < 3) /* in state 5 by annex B */
         (void)!lapd_release(card, 0, LAPD_CALL, link->tei, &report);
     else if (link->state >= 7 && x < 40)
         (void)!lapd_data(card, 0, LAPD_CALL, link->tei, octets, 3 + chance() % 30, &report);

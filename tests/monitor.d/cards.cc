@@ -9,7 +9,7 @@ namespace {
 
 // Where an image has its link, if the card has one line and one TEI, and no procedure of TEI management runs (docs/FORMAT.md).
 constexpr size_t LINK = 27, COUNTED = 7, COUNTERS = 10, CONTENTS = COUNTED + COUNTERS;
-constexpr uint8_t PEER_BUSY = 1, OWN_BUSY = 2, REJECTING = 4, PENDING = 8, RUNS_T200 = 32, RUNS_T203 = 64;
+constexpr uint8_t STATE = 63, OWED = 64, PEER_BUSY = 1, OWN_BUSY = 2, REJECTING = 4, PENDING = 8, RUNS_T200 = 32, RUNS_T203 = 64;
 const uint8_t DATA[1] = {'x'};
 
 void want(bool is_so, const char *what, uint32_t status) {
@@ -35,10 +35,11 @@ void leave_out_counters(Image &image) {
 
 } // namespace
 
+const Unseen RELEASED = {"release request", 0, LAPD_RELEASE};
 const std::vector<Unseen> UNSEEN = {
     {"T200 expires", LAPD_T200, 0},       {"T203 expires", LAPD_T203, 0}, {"establish request", 0, LAPD_ESTABLISH},
-    {"release request", 0, LAPD_RELEASE}, {"set busy", 0, LAPD_BUSY},     {"clear busy", 0, LAPD_READY},
-    {"data request", 0, LAPD_DATA},
+    {"data request", 0, LAPD_DATA},       {"set busy", 0, LAPD_BUSY},     {"clear busy", 0, LAPD_READY},
+    RELEASED,
 };
 const Unseen DEACTIVATED = {"the line is down", 0, LAPD_DEACTIVATE};
 
@@ -91,7 +92,8 @@ Image Card::image() {
 monitor::State state_of(const Image &image) {
     const uint8_t *link = image.data() + LINK, flags = link[1];
     monitor::State it;
-    it.state = link[0];
+    it.state = link[0] & STATE;
+    it.owed = (link[0] & OWED) != 0;
     it.rc = it.state == 5 || it.state == 6 || it.state == 8 ? link[2] : uint8_t{0};
     if ((flags & (RUNS_T200 | RUNS_T203)) != 0)
         it.timer = (flags & RUNS_T200) != 0 ? monitor::Timer::t200 : monitor::Timer::t203;

@@ -20,7 +20,7 @@ struct Unseen {
     uint8_t timer, request;
 };
 extern const std::vector<Unseen> UNSEEN;
-extern const Unseen DEACTIVATED;
+extern const Unseen RELEASED, DEACTIVATED; // the first is among UNSEEN
 
 // A card of frames with one TEI, 0, whose link for call control is looked at. What it counts is of no interest: it is left out.
 class Card {

@@ -3,11 +3,12 @@
  *
  *     pair SEED [NAME=NUMBER..]
  *
- * Both layers 3 ask at random. Frames are lost after the tap, so with tap=0, at the network's end, none that comes there, and with
- * tap=100 none that comes to the user's. Standard error has what was drawn, as NAME=NUMBER; each may be
- * given. An end is a card of the library, or with `plain` the machine of plain.c: 0 none, 1 the network's, 2 the user's, 3 both.
- * `fault` is the number of its wrong row. With `stim` somebody sends so many wrong frames of 10,000 milliseconds toward the end of
- * `plain`, or if there is none toward the user's, as if they came from the other end. `octets=1` has cards of octets.
+ * Both layers 3 ask at random. Frames are lost after the tap, so with tap=0, at the network's end, none that comes there, and
+ * with tap=100 none that comes to the user's. Standard error has what was drawn, as NAME=NUMBER; each may be given. With `again`
+ * layer 3 also asks in state 5, in 4 times so many of 10,000 milliseconds: mostly for the release. An end is a card of the
+ * library, or with `plain` the machine of plain.c: 0 none, 1 the network's, 2 the user's, 3 both. `fault` is the number of its
+ * wrong row. With `stim` somebody sends so many wrong frames of 10,000 milliseconds toward the end of `plain`, or if there is
+ * none toward the user's, as if they came from the other end. `octets=1` has cards of octets.
  */
 #include <inttypes.h>
 #include <stdio.h>
@@ -17,7 +18,7 @@
 #include "ends.h"
 
 static struct {
-    int k, n200, t200, t203, loss, prop, tap, ms, annexb, rate, down, restart, busy, release, load, length;
+    int k, n200, t200, t203, loss, prop, tap, ms, annexb, rate, down, restart, busy, release, again, load, length;
     int stim, plain, fault, from, octets;
 } given;
 
@@ -76,6 +77,7 @@ static void draw(char **words) {
     given.release = value_of(words, "release", (int)(chance() % 3));
     given.load = value_of(words, "load", (int)(chance() % 40));
     given.length = value_of(words, "length", chance() % 2 ? 200 : 20);
+    given.again = value_of(words, "again", 0);
     given.down = value_of(words, "down", 0);
     given.restart = value_of(words, "restart", 0);
     given.stim = value_of(words, "stim", 0);
@@ -179,6 +181,8 @@ static void ask(end *it) {
         end_busy(it, true);
     else if (state >= 7 && x >= 200 && x < 200 + 8 * (uint32_t)given.busy)
         end_busy(it, false);
+    else if (state == 5 && x >= 1000 && x < 1000 + 4 * (uint32_t)given.again)
+        x < 1000 + 3 * (uint32_t)given.again ? end_release(it) : end_establish(it);
     else if (x == 300)
         end_unit(it);
     else if (x >= 400 && x < 400 + (uint32_t)given.down && state > 4)

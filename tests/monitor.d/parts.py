@@ -68,6 +68,8 @@ def no_alarm(test, name, found, ends=('network', 'user'), of=runs.ALARMS):
 def cards(test):
     def words_of(seed):
         words = ['from=%d' % (seed * 37 % 900)] if seed % 3 == 0 else []
+        if seed % 2 == 0:
+            words += ['again=%d' % (seed % 9)]
         if seed % 5 == 0:
             words += ['down=2', 'restart=%d' % (seed % 2)]
         return words + ['octets=1', 'ms=20000'] if seed % 8 == 1 else words
@@ -75,8 +77,8 @@ def cards(test):
 
 
 def machines(test):
-    no_alarm(test, 'two plain machines', test.runs('pair', test.count(30, 1000), lambda seed: ['plain=3']))
-    mixed = test.runs('pair', test.count(20, 1000), lambda seed: ['plain=%d' % (1 + seed % 2)])
+    no_alarm(test, 'two plain machines', test.runs('pair', test.count(30, 1000), lambda seed: ['plain=3', 'again=%d' % (seed % 5)]))
+    mixed = test.runs('pair', test.count(20, 1000), lambda seed: ['plain=%d' % (1 + seed % 2), 'again=%d' % (seed % 7)])
     no_alarm(test, 'a card and a plain machine', mixed)
 
 

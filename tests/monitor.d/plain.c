@@ -1,50 +1,9 @@
 /* plain.c: see plain.h. */
-#include "plain.h"
+#include "plain_frames.h"
 
 #include <string.h>
 
-enum { SABME = 0x6F, DISC = 0x43, UA = 0x63, DM = 0x0F, FRMR = 0x87, UI = 0x03, XID = 0xAF, RR = 0x01, RNR = 0x05, REJ = 0x09 };
 enum { N201 = 260 };
-
-/* ---- What it sends ---- */
-
-static void put(plain *it, bool is_command, const uint8_t *rest, size_t length) {
-    plain_frame *frame = &it->control[(it->first + it->waiting) % PLAIN_CONTROL];
-    if (it->waiting == PLAIN_CONTROL)
-        return;
-    it->waiting++;
-    frame->octets[0] = (uint8_t)(is_command == it->is_network ? 2 : 0);
-    frame->octets[1] = 1;
-    memcpy(frame->octets + 2, rest, length);
-    frame->length = 2 + length;
-}
-
-static void unnumbered(plain *it, bool is_command, uint8_t control, bool pf) {
-    uint8_t rest[6] = {(uint8_t)(control | (pf ? 0x10 : 0))};
-    put(it, is_command, rest, control == FRMR ? 6 : 1);
-}
-
-static void supervisory(plain *it, bool is_command, uint8_t control, bool pf) {
-    uint32_t nr = it->r - (it->fault == NR_NOT_ADVANCED && control == RR && !pf && it->r > 0);
-    uint8_t rest[2] = {control, (uint8_t)((nr & 127) << 1 | pf)};
-    put(it, is_command, rest, 2);
-    it->pending = false;
-}
-
-static void answer(plain *it) {
-    if (it->fault != NO_ANSWER)
-        supervisory(it, false, it->own_busy && it->fault != ANSWER_RR ? RNR : RR, it->fault != WRONG_F);
-}
-
-static void enquiry(plain *it) {
-    supervisory(it, it->fault != ENQUIRY_RESPONSE, it->own_busy && it->fault != ENQUIRY_RR ? RNR : RR, true);
-}
-
-static void ua(plain *it, bool f) {
-    unnumbered(it, false, UA, it->fault != UA_F0 && f);
-    if (it->fault == UA_TWICE)
-        unnumbered(it, false, UA, f);
-}
 
 /* ---- Timers ---- */
 
@@ -93,7 +52,16 @@ static void comes_up(plain *it) {
     it->state = 7;
 }
 
+static void disconnect(plain *it) {
+    it->owed = false;
+    unnumbered(it, true, DISC, true);
+    it->rc = 0;
+    t200(it);
+    it->state = 6;
+}
+
 static void goes_down(plain *it) {
+    it->owed = false;
     discard(it);
     no_timer(it);
     it->state = 4;
@@ -132,7 +100,7 @@ static void hear_disc(plain *it, bool p) {
 
 static void hear_ua_or_dm(plain *it, bool is_ua, bool f) {
     if (it->state == 5 && f && is_ua)
-        comes_up(it);
+        it->owed ? disconnect(it) : comes_up(it);
     else if ((it->state == 5 || it->state == 6) && f)
         goes_down(it);
     else if (it->state == 4 && !is_ua && !f && it->is_annex_b)
@@ -314,20 +282,27 @@ void plain_start(plain *it, bool is_network, bool is_annex_b, int k, int n200, u
     it->state = 4;
 }
 
+/* By annex B, in state 5: UA decides. */
+static void owe(plain *it, bool is_release) {
+    discard(it);
+    it->owed = is_release;
+}
+
 void plain_establish(plain *it) {
     if (it->state == 4)
         sabme(it);
+    else if (it->state == 5 && it->is_annex_b)
+        owe(it, false);
 }
 
 void plain_release(plain *it) {
+    if (it->state == 5 && it->is_annex_b)
+        owe(it, true);
     if (it->state < 7)
         return;
     discard(it);
     it->pending = false;
-    unnumbered(it, true, DISC, true);
-    it->rc = 0;
-    t200(it);
-    it->state = 6;
+    disconnect(it);
 }
 
 void plain_data(plain *it, const uint8_t *octets, size_t length) {

@@ -40,7 +40,7 @@ typedef struct {
     /* what it is in */
     int state;
     uint32_t a, s, r, accepted; /* not modulo 128 */
-    bool peer_busy, own_busy, rejecting, pending;
+    bool peer_busy, own_busy, rejecting, pending, owed;
     int rc;
     uint64_t t200_due, t203_due; /* 0: it does not run */
     plain_frame queue[PLAIN_QUEUE];     /* contents by their number, from the place of number 0 on, going round */

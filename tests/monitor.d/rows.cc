@@ -4,9 +4,10 @@
 //
 // After each event the card itself tells, by copies of it (cards.h), which frames it may send next, and in which states it may be.
 // Of each frame near those it is asked whether the monitor lets an end send it then: exactly those that the card may send. As time
-// passes, the states that the monitor has for possible are exactly those that the card may be in. What was played is printed: the
-// events in the words of crates/tool_tables/stdout, each with the state, the reading, and how often; and the monitor's rows that
-// were so compared. With a third word the monitor is told a wrong window, a wrong N200 or the other reading: it has to be noticed.
+// passes, the states that the monitor has for possible are exactly those that the card may be in. What was played is printed:
+// the events in the words of crates/tool_tables/stdout, each with the state, the reading, and how often; and the monitor's rows
+// that were so compared. Of the state is also said whether a release is owed, as the columns there do.
+// With a third word the monitor is told a wrong window, a wrong N200 or the other reading: it has to be noticed.
 // Status 1: something differs.
 //
 // Of three runs one has its tap at the card; in one frames toward the card are lost; and in one its link is also deactivated.
@@ -53,6 +54,9 @@ std::string in_words_of_state(const State &it) {
     words.s = it;
     return in_words(words, it.heard);
 }
+
+// The column of crates/tool_tables/stdout: as "5, release".
+std::string column_of(const State &it) { return std::to_string(it.state) + (it.owed ? ", release" : ""); }
 
 // ---- Frames that come ----
 
@@ -204,7 +208,7 @@ void Run::differs(const std::string &what) {
 void Run::count(const std::string &event) {
     latest = event;
     const char *reading = config.reading == LAPD_ANNEX_B ? "|annex B" : "|profile";
-    counts.played[event + "|" + std::to_string(state_of(truth).state) + reading]++;
+    counts.played[event + "|" + column_of(state_of(truth)) + reading]++;
 }
 
 // The rows by which the monitor goes, of a state in which the card is.
@@ -318,9 +322,15 @@ void Run::hears() {
     truth = card.image();
 }
 
+// So that a release is owed often.
+const Unseen &any_unseen(const State &it) {
+    bool is_release = it.state == 5 && !it.owed && chance(2) == 0;
+    return is_release ? RELEASED : UNSEEN[chance(UNSEEN.size())];
+}
+
 // Something that the tap does not see.
 void Run::does() {
-    const Unseen &it = terms.goes_down && chance(20) == 0 ? DEACTIVATED : UNSEEN[chance(UNSEEN.size())];
+    const Unseen &it = terms.goes_down && chance(10) == 0 ? DEACTIVATED : any_unseen(state_of(truth));
     Card card(truth);
     card.happens(it);
     count(it.words);

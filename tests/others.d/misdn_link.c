@@ -5,7 +5,8 @@
  *
  * Words of the command line that make differences alike: `reject-timers` (after REJ in state 7, T200 runs if anything is
  * outstanding, and T203 otherwise), `reject-sends` (REJ that ends the other end's busy lets I-frames go), `clear-busy` (the end
- * of own busy is told if it was busy), `final-rnr` (RNR with F=1 acknowledges in state 8).
+ * of own busy is told if it was busy), `final-rnr` (RNR with F=1 acknowledges in state 8),
+ * `kept-release` (UA that meets a release of state 5 leads to state 6).
  */
 #include "kernel.h"
 
@@ -152,15 +153,35 @@ static void mend_reject(void) {
     }
 }
 
+/* UA in state 5, if a release was kept there: nothing is told of the establishment; */
+static void forget_establishment(void) {
+    (void)test_and_clear_bit(FLG_L3_INIT, &at->flag);
+    freewin(at);
+    at->vs = at->va;
+}
+
+/* and after it DISC has gone, and its answer is awaited. */
+static void mend_release(void) {
+    mISDN_FsmDelTimer(&at->t203, 0);
+    restart_t200(at, 0);
+    mISDN_FsmChangeState(&at->l2m, ST_L2_6);
+}
+
 static bool hears(const uint8_t *octets, size_t length) {
+    bool is_released = octets[2] == (UA | 0x10) && length == 3 && at->l2m.state == ST_L2_5 && test_bit(FLG_PEND_REL, &at->flag)
+                       && is_alike("kept-release");
     bool is_reject = octets[2] == REJ && at->l2m.state == ST_L2_7;
     bool is_final = octets[2] == RNR && (octets[0] & 2) && length == 4 && (octets[3] & 1) && at->l2m.state == ST_L2_8;
     if (is_final && is_alike("final-rnr") && legalnr(at, octets[3] >> 1))
         setva(at, octets[3] >> 1);
+    if (is_released)
+        forget_establishment();
     struct sk_buff *it = mI_alloc_skb(length, GFP_ATOMIC);
     skb_put_data(it, octets, length);
     mISDN_HEAD_PRIM(it) = PH_DATA_IND;
     bool is_refused = ph_data_indication(at, mISDN_HEAD_P(it), it) != 0;
+    if (is_released)
+        mend_release();
     if (is_reject && is_alike("reject-timers"))
         mend_reject();
     if (is_reject && is_alike("reject-sends"))

@@ -4,7 +4,8 @@ import re
 from typing import Dict, Iterator, NamedTuple, Tuple
 
 # The columns of a link that others are put into at once: state, whether layer 3 asked, RC, contents outstanding and unsent,
-# own and peer busy, reject exception, and the timer that runs. Columns in which answers find no room have no counterpart.
+# own and peer busy, reject exception, and the timer that runs. Columns in which answers find no room have no counterpart, nor
+# have those of a release that is owed: only one of the three keeps it, half.
 COLUMNS = {
     '4': '4 0 0 0 0 0 0 0 0',
     '5, layer 3 asked': '5 1 0 0 0 0 0 0 200',
@@ -31,7 +32,7 @@ COLUMNS = {
     '8, peer busy, one outstanding': '8 0 0 1 0 0 1 0 200',
     '8, both busy, one unsent': '8 0 0 0 1 1 1 0 200',
 }
-NO_COUNTERPART = 'two answers wait'
+NO_COUNTERPART = 'two answers wait', '5, release'
 # What stands after an event whose row differs by the reading.
 PROFILE, ANNEX_B = ' (profile)', ' (annex B)'
 # Requests, of which it counts whether they are refused.
@@ -142,7 +143,7 @@ def link_cells(page) -> Dict[Tuple[str, str], Outcome]:
     links = page.partition('\n## TEI management')[0].partition('\n### ')[2]
     cells = {}
     for column, name, cell in tables_of(links):
-        if NO_COUNTERPART not in column:
+        if not any(part in column for part in NO_COUNTERPART):
             for event in numbered(name):
                 cells[column, event] = outcome_of(cell, column, event)
     return cells

@@ -25,7 +25,7 @@ NETWORK_EVENTS = {
     'identity request, Ai 64': 'hear 1 4 64',
     'identity request, Ai 70': 'hear 1 4 70',
     'identity request, Ai 5': 'hear 1 4 5',
-    'identity request of six octets': 'octets FCFF030F000301FF00',
+    'identity request of six octets': 'octets FCFF030F000401FF00',
     'identity verify, Ai 64': CHECK,
     'identity verify, Ai 65': 'hear 7 0 65',
     'check response, Ai 64': RESPONSE,
@@ -79,7 +79,8 @@ NOT_THERE = {('network', 'misdn'): OVER, ('terminal', 'misdn'): NEVER_ASKED + [(
 
 
 # The printed table has room for two TEIs.
-LIMITS = [(column, 'identity request, Ri %d' % ri) for column in ('64 and 65', '64 and 65, 64 checked') for ri in (1, 2, 3)]
+LIMITS = [(column, event) for column in ('64 and 65', '64 and 65, 64 checked')
+          for event in (*('identity request, Ri %d' % ri for ri in (1, 2, 3)), 'identity request of six octets')]
 
 
 def cells(side):

@@ -12,6 +12,8 @@ LONGEST = 3600000  # that a timer runs, in milliseconds
 COUNTED, COUNTED_OF_LINK = counters(), counted()
 FLAGS = "peer-busy own-busy rejecting pending asked t200 t203".split()
 PEER_BUSY, OWN_BUSY, REJECTING, PENDING, ASKED, T200, T203 = range(7)
+# Beside a link's state, in the same octet: a release is owed.
+OWED = 64
 # What may wait of frames with a control field of one octet, without P/F: a command, a response, or both.
 UNNUMBERED = {0x03: (True,), 0x43: (True,), 0x6F: (True,), 0x0F: (False,), 0x63: (False,), 0xAF: (True, False)}
 # The numbers of a configuration, in order.
@@ -47,6 +49,7 @@ class Config:
 @dataclass
 class Link:
     state: int
+    owes_release: bool
     flags: Tuple[bool, ...]
     rc: int
     va: int
@@ -243,14 +246,17 @@ def teis_of_others(r: Reader, config: Config, line: Line) -> None:
 
 
 def link_of(r: Reader, config: Config, window: int) -> Link:
-    state, flags = r.number(1, 4, 8, "a state"), r.bits(len(FLAGS))
+    octet, flags = r.number(1), r.bits(len(FLAGS))
+    state, owed = octet % OWED, octet // OWED
+    r.need(4 <= state <= 8 and owed <= 1, f"a state is {octet}")
     rc, va, outstanding, vr = r.number(1, 0, config.n200, "RC"), r.number(1, 0, 127, "V(A)"), r.number(1, 0, window, "V(S) - V(A)"), r.number(1, 0, 127, "V(R)")
     again, counted = r.number(1), [r.number(2) for _ in COUNTED_OF_LINK]
     contents = r.list(config.queue, lambda: r.contents(config.n201), "contents")
-    link = Link(state, flags, rc, va, outstanding, vr, again, counted, contents, r.list(config.control, lambda: control_of(r), "control frames"))
+    link = Link(state, owed == 1, flags, rc, va, outstanding, vr, again, counted, contents, r.list(config.control, lambda: control_of(r), "control frames"))
     r.need(outstanding <= len(contents), "contents are missing")
     r.need(again <= len(contents) - outstanding, "more contents go again than are unsent")
     r.need(not contents or state in (7, 8) or state == 5 and not flags[ASKED], "contents wait in a state that has none")
+    r.need(not owed or config.annex_b and state == 5 and not flags[ASKED] and not contents, "a release is owed that can't be")
     r.need(not (flags[OWN_BUSY] and flags[PENDING]), "a busy side owes an acknowledgement")
     allowed = {4: ["-"], 7: ["t200"] + ["t203"] * (outstanding == 0)}.get(state, ["t200"])
     running = [name for name, runs in zip(("t200", "t203"), flags[T200:]) if runs]

@@ -57,7 +57,7 @@ def teis(config: Config, line: Line) -> Iterator[str]:
 
 def link(number: int, it: Link, places: List[Optional[int]]) -> Iterator[str]:
     numbers = f"va {it.va} vs {(it.va + it.outstanding) % 128} vr {it.vr} rc {it.rc}"
-    flags = [name for name, is_set in zip(FLAGS, it.flags) if is_set]
+    flags = [name for name, is_set in zip(FLAGS, it.flags) if is_set] + ["owes-release"] * it.owes_release
     yield " ".join([of_link("link", number, places), f"state {it.state} {STATES[it.state]}", numbers, *flags])
     yield f"{of_link('waiting', number, places)} contents {len(it.contents)} again {it.again} control {len(it.control)}"
     counted = [f"{name.replace('_', '-')} {n}" for name, n in zip(COUNTED_OF_LINK, it.counted) if n]

@@ -21,7 +21,7 @@ from .wasm import put
 
 # Each function of these has its own text in c/portable/card.c; the others are written here.
 BY_HAND = ("lapd_version", "lapd_card_start", "lapd_card_start_frames", "lapd_clock_start", "lapd_card_free", "lapd_clock_free",
-           "lapd_exchange", "lapd_frame_text",
+           "lapd_exchange", "lapd_frame_read", "lapd_frame_text",
            "lapd_card_start_timed", "lapd_card_start_frames_timed", "lapd_image_octets", "lapd_card_save", "lapd_card_restore",
            "lapd_clock_save", "lapd_clock_restore")
 # No function of the machine's is asked for it.

@@ -7,6 +7,7 @@ pub mod Starts
 pub mod Timers
 pub mod LinkPlaces
 pub mod Rooms
+pub mod Fields
 pub mod Heads
 pub mod Notes
 pub mod Faults
@@ -92,6 +93,7 @@ pub use Rattle.lapd_c.specs.Counted.{counters_at, Counts}
 pub use Rattle.lapd_c.specs.Counters.{plain_counters, plain_link_counters}
 pub use Rattle.lapd_c.specs.Exchange.{Exchanged, Exchanges, is_exchange, tells_nothing, step_event, steps_made, with_step}
 pub use Rattle.lapd_c.specs.Frames.{frame_comes, fails, goes, IsGiven, next_at}
+pub use Rattle.lapd_c.specs.Fields.{fields_of, plain_fields}
 pub use Rattle.lapd_c.specs.Heads.{plain_head}
 pub use Rattle.lapd_c.specs.Kept.{ChangesStandIn, is_timed, Obeys, orders_seen, timers_of, TimersStandIn}
 pub use Rattle.lapd_c.specs.LinkMarks.{AreMarked, AreUnmarked, marks_of, MarksBecome}
@@ -103,6 +105,6 @@ pub use Rattle.lapd_c.specs.Reports.{contents_in, contents_or_none, given_up_tei
 pub use Rattle.lapd_c.specs.Requests.{request_in}
 pub use Rattle.lapd_c.specs.Rooms.{plain_room}
 pub use Rattle.lapd_c.specs.Services.{service_in}
-pub use Rattle.lapd_c.specs.Statuses.{field_status, refusal_status}
+pub use Rattle.lapd_c.specs.Statuses.{fault_status, field_status, refusal_status}
 pub use Rattle.lapd_c.specs.Texts.{text_of}
 pub use Rattle.lapd_c.specs.Timers.{link_in, no_timer, order_in, plain_order, plain_timer, timer_in}

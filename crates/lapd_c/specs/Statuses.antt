@@ -1,5 +1,7 @@
 -- What a call answers, as a number.
 use Rattle.std.specs.Prelude.{ℕ}
+use Rattle.lapd_frame.specs.declared.faults.ReadFault.{ReadFault}
+use Rattle.lapd_frame.specs.declared.faults.ReadFault.TheVariants.{BadExtension, Undefined, WrongSize, Short}
 use Rattle.lapd_frame.specs.declared.refusals.Refusal.{Refusal}
 use Rattle.lapd_frame.specs.declared.refusals.Refusal.TheVariants.{BadTei, NoLink, WrongState, TooLong, QueueFull, PoolFull, TeiTaken, TableFull, CheckRunning, ControlFull, WrongSide}
 use Rattle.model_line.specs.declared.config.Field.{Field}
@@ -90,6 +92,13 @@ refusal_status TableFull = 8
 refusal_status CheckRunning = 9
 refusal_status ControlFull = 10
 refusal_status WrongSide = 29
+
+-- Why octets are no frame.
+abbrev pub fault_status : ReadFault → ℕ
+fault_status Short = 48
+fault_status BadExtension = 49
+fault_status (Undefined address) = 50
+fault_status (WrongSize address) = 51
 
 -- Which field of a configuration is the first that is out of range.
 abbrev pub field_status : Field → ℕ

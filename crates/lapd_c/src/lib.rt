@@ -20,7 +20,7 @@
 //! - `laws`: what holds of the machine's answers, so that a report has room for each.
 //! - `plain`: the structs and numbers of C, and what they mean.
 //! - `timed`: what falls due at a card that keeps its own timers, and when.
-//! - `text`: what octets say in words.
+//! - `text`: what octets say in words; `fields`: what they say as a frame, in fields.
 //! - `slot`: where a card or a clock lies; `version`: which version this is.
 //!
 //! # Only tested
@@ -42,6 +42,7 @@ mod clock_reports;
 mod clock_saved;
 mod events;
 mod exchange;
+mod fields;
 mod frames;
 mod kept;
 mod kept_image;

@@ -57,6 +57,22 @@ fn fall_due(handle: &mut CardHandle, now: u64, report: &mut PlainReport) -> u32
     OK
 }
 
+/// The moment at which the card is: the one that it was told last, 0 before the first, and that of its image after a restore.
+#[unsafe(no_mangle)]
+pub extern "C" fn lapd_now(handle: &mut CardHandle, moment: &mut u64) -> u32
+    requires { IsHandle handle.old }
+    ensures question { IsQuestion of_any handle.old handle.new result moment.old moment.new }
+    ensures wrong_card { is_timed handle.old ≡ false → (card_of handle.old ≡ None) ⊎ (result ≡ status.wrong_card) }
+    ensures told { (m : machine.Card) (c : Clock) → TimersStandIn (timers_of handle.old) m c → (result ≡ status.ok) × (moment.new ≡ c.now) }
+{
+    lend!(kept of handle);
+    if !kept.timed.is_timed() {
+        return WRONG_CARD;
+    }
+    *moment = kept.timed.now();
+    OK
+}
+
 /// When the timer falls due that falls due first, due or not: nothing falls due before. After an [`lapd_fall_due`] that said that
 /// nothing is due, it is later than the moment of that call.
 #[unsafe(no_mangle)]

@@ -31,19 +31,19 @@ module _ (c : Config) (full : Bool) (service : Service) (tei : ℕ) (l : Line) w
   with_rest x y = ap (λ r. cond (nat_lt 126 tei) (Some BadTei) (cond (not (has_tei tei l)) (Some NoLink) r))
 
   pub establish_rows : refusal c full (Establish service tei) l ≡ link_refusal c full service tei link.Establish l
-  establish_rows = with_rest _ _ (turned (serves (link_of service tei l).state link.Establish) (Some WrongState) None)
+  establish_rows = with_rest _ _ (turned (serves c.reading (link_of service tei l).state (link_of service tei l).owed link.Establish) (Some WrongState) None)
 
   pub release_rows : refusal c full (Release service tei) l ≡ link_refusal c full service tei link.Release l
-  release_rows = with_rest _ _ (turned (serves (link_of service tei l).state link.Release) (Some WrongState) None)
+  release_rows = with_rest _ _ (turned (serves c.reading (link_of service tei l).state (link_of service tei l).owed link.Release) (Some WrongState) None)
 
   pub set_busy_rows : refusal c full (SetBusy service tei) l ≡ link_refusal c full service tei link.SetBusy l
-  set_busy_rows = with_rest _ _ (turned (serves (link_of service tei l).state link.SetBusy) (Some WrongState) None)
+  set_busy_rows = with_rest _ _ (turned (serves c.reading (link_of service tei l).state (link_of service tei l).owed link.SetBusy) (Some WrongState) None)
 
   pub clear_busy_rows : refusal c full (ClearBusy service tei) l ≡ link_refusal c full service tei link.ClearBusy l
-  clear_busy_rows = with_rest _ _ (turned (serves (link_of service tei l).state link.ClearBusy) (Some WrongState) None)
+  clear_busy_rows = with_rest _ _ (turned (serves c.reading (link_of service tei l).state (link_of service tei l).owed link.ClearBusy) (Some WrongState) None)
 
   pub data_rows : (contents : List ℕ) → refusal c full (Data service tei contents) l ≡ link_refusal c full service tei (link.Data contents) l
-  data_rows contents = with_rest _ _ (turned (serves (link_of service tei l).state (link.Data contents)) (Some WrongState) _)
+  data_rows contents = with_rest _ _ (turned (serves c.reading (link_of service tei l).state (link_of service tei l).owed (link.Data contents)) (Some WrongState) _)
 
 -- and those of a request of management
 no_network : (c : Config) → is_terminal c ≡ true → is_network c.side ≡ false

@@ -63,7 +63,7 @@ terminal_leads c aim e b n outcome range after told m f is proper = record {
       ∙ ap (λ x. of_change c (terminals.told e x).change (told_of_management (terminals.told e x)) (with_terminal (terminals.after e x) m)) same
       ∙ ap (λ t. of_change c t.change (told_of_management t) (with_terminal (terminals.after e b) m)) (sym told)
       ∙ ap (λ x. of_change c outcome.change (told_of_management (told_of outcome)) (with_terminal x m)) (sym after)
-      ∙ ap (λ x. of_change c outcome.change (told_of_management (told_of outcome)) (record m { management = record x { places = n.places }; own = own_of (kind.Terminal n) })) f.management;
+      ∙ ap (λ x. of_change c outcome.change (told_of_management (told_of outcome)) (record m { management = record x { reading = n.reading; places = n.places }; own = own_of (kind.Terminal n) })) f.management;
   moves =
       let moved : Moves m.management.places (terminals.told e b).change (terminals.after e b).places = subst (λ x. Moves m.management.places (terminals.told e x).change (terminals.after e x).places) same (leads e (terminal_in m) range own).moves in
       subst (λ x. Moves m.management.places x n.places) (ap (λ t. t.change) (sym told)) (subst (λ x. Moves m.management.places (terminals.told e b).change x.places) (sym after) moved);
@@ -155,4 +155,4 @@ message_of_kind c (kind.Terminal b) m is management own =
     ap (λ b. cond b (option_map (with_own_message m) (terminals.offered (terminal_in m))) (option_map (with_message m) (teis.offered c.side m.management))) (sym is)
     ∙ ap (λ x. option_map (λ octets. record { frame = octets; orders = []; line = with_terminal (terminals.after_offer x) m }) (terminals.offered x))
     (ap (λ x. terminal_with x m.own) management ∙ ap (terminal_with (management_of c (kind.Terminal b))) own)
-    ∙ ap (λ x. option_map (λ octets. record { frame = octets; orders = []; line = record m { management = record x { places = b.places }; own = own_of (without_message (kind.Terminal b)) } }) (terminals.offered b)) management
+    ∙ ap (λ x. option_map (λ octets. record { frame = octets; orders = []; line = record m { management = record x { reading = b.reading; places = b.places }; own = own_of (without_message (kind.Terminal b)) } }) (terminals.offered b)) management

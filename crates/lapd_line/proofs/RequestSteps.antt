@@ -76,7 +76,7 @@ pub with_room : (c : Config) (full : Bool) (r : Request) (l : machine.Line) → 
 with_room c full (Establish service tei) l e = e
 with_room c full (Release service tei) l e = e
 with_room c full (Data service tei contents) l e =
-    last_row (bad_tei tei ∷ no_link tei l ∷ wrong_state service tei (link.Data contents) l ∷ too_long c contents ∷ queue_full c service tei l ∷ []) full e
+    last_row (bad_tei tei ∷ no_link tei l ∷ wrong_state c service tei (link.Data contents) l ∷ too_long c contents ∷ queue_full c service tei l ∷ []) full e
 with_room c full (Unit service tei contents) l e = last_row (bad_tei_or_group c tei ∷ no_link_nor_group tei l ∷ too_long c contents ∷ unit_queue_full c l ∷ []) full e
 with_room c full (Assign tei) l e = e
 with_room c full (Remove tei) l e = e

@@ -57,6 +57,7 @@ saved_in c (kind.Network like) m same begun whole = record {
 }
 saved_in c (kind.Terminal like) m same begun whole = record {
   saved = record { sound = (subst (λ b. IsOfSide b m.management m.own) (sym same) whole.sound.own).0; messages = whole.saved.own };
+  reading = whole.sound.reading ∙ ap (λ (t : Management). t.reading) begun;
   places = whole.sound.places ∙ sym (length-replicate c.terminals None) ∙ ap (λ (t : Management). length t.places) begun;
 }
 
@@ -86,7 +87,8 @@ teis_read (kind.Terminal like) (kind.Terminal x) (kind.Terminal y) r s saved als
     let read = own-read (own_in x) (own_in y) r s
     (record { number = saved.saved.sound.number; procedure = procedure-fits x.places x.procedure saved.saved.sound.runs })
     (record { number = also.saved.sound.number; procedure = procedure-fits y.places y.procedure also.saved.sound.runs }) table.1 in
-    ((λ i. kind.Terminal (record { places = table.0 i; number = (read.0 i).number; procedure = (read.0 i).procedure; waiting = (read.0 i).waiting })), read.1)
+    let reading = saved.reading ∙ sym also.reading in
+    ((λ i. kind.Terminal (record { reading = reading i; places = table.0 i; number = (read.0 i).number; procedure = (read.0 i).procedure; waiting = (read.0 i).waiting })), read.1)
 
 -- The numbers of what may be saved have their sizes.
 pub record AreSized (c : Config) (x : Managing) : Type 0 where
@@ -144,7 +146,7 @@ sound_teis c (kind.Terminal like) (kind.Terminal x) begun saved =
     let unused : IsUnused (management_of c (kind.Terminal x)) = record { remembered = refl; check = refl; to_check = ap (λ n. replicate n false) (sym many); waiting = refl } in
     record {
       management = sound_unused (management_of c (kind.Terminal x)) saved.saved.sound.table unused;
-      reading = refl;
+      reading = saved.reading ∙ sym (ap (λ (t : Management). t.reading) begun);
       own = (saved.saved.sound, unused);
       places = many;
       sized = are_sized c (kind.Terminal like) (kind.Terminal x) saved;

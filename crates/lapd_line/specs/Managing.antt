@@ -23,7 +23,7 @@ places_of (kind.Terminal t) = t.places
 -- has. The network's side has nothing of it.
 abbrev pub beside_table : Config → Managing → Management
 beside_table c (kind.Network m) = m
-beside_table c (kind.Terminal t) = empty c.reading c.terminals
+beside_table c (kind.Terminal t) = empty t.reading c.terminals
 
 abbrev pub management_of : Config → Managing → Management
 management_of c x = record (beside_table c x) { places = places_of x }

@@ -38,7 +38,8 @@ impl Managing {
         let places = usize::from(config.terminals);
         match config.seed {
             Some(seed) if config.is_terminal() => {
-                Ok(Managing::Terminal(TerminalTeis::start(places, seed)))
+                let own = TerminalTeis::start(places, seed, config.reading);
+                Ok(Managing::Terminal(own))
             }
             _ => Ok(Managing::Network(Teis::start_as(alloc, places, config.reading)?)),
         }

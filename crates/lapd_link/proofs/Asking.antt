@@ -5,7 +5,7 @@ use Rattle.model_link.specs.Link as machine
 use Rattle.lapd_link.proofs.Ending.{reached}
 
 -- a request that the state serves
-pub served : (t : Terms) (m : machine.Link) (pool_is_full : Bool) (r : Request) → serves m.state r ≡ true → refusal t m pool_is_full r ≡ refusal_for_room t m pool_is_full r
+pub served : (t : Terms) (m : machine.Link) (pool_is_full : Bool) (r : Request) → serves t.reading m.state m.owed r ≡ true → refusal t m pool_is_full r ≡ refusal_for_room t m pool_is_full r
 served t m pool_is_full r does = ap (λ (b : Bool). if b then refusal_for_room t m pool_is_full r else Some WrongState) does
 
 -- a request that is not refused

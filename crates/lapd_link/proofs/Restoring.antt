@@ -1,9 +1,10 @@
 -- A link is read from an image.
-use Rattle.lapd_link.proofs.Vocabulary.{◌≡◌, ℕ, zero, suc, ◌+◌, ◌-◌, ◌≤◌, Bool, List, [], ◌++◌, length, drop, Option, arith, refl, ap, sym, subst, ◌∙◌, length-append, length-drop, Terms, Keeps, SameLimits, Stays, Store, Link, queue_of, slots_of, terms_of, Entity, Rests, IsInRange, IsSound, State, ControlFrame, LinkTimer}
+use Rattle.lapd_link.proofs.Vocabulary.{◌≡◌, false, ℕ, zero, suc, ◌+◌, ◌-◌, ◌≤◌, Bool, List, [], ◌++◌, length, drop, Option, arith, refl, ap, sym, subst, ◌∙◌, length-append, length-drop, Terms, Keeps, SameLimits, Stays, Store, Link, queue_of, slots_of, terms_of, Entity, Rests, IsInRange, IsSound, State, ControlFrame, LinkTimer}
 use Rattle.std.proofs.Common.{append_assoc, inl, inr, replicate}
 use Rattle.std.proofs.lemmas.List.{length-replicate}
 use Rattle.std.proofs.lemmas.List.Elements.{All-append, All-drop, All-replicate}
 use Rattle.std.specs.Prelude.{All}
+use Rattle.lapd_frame.specs.declared.readings.Reading.TheVariants.{AnnexB}
 use Rattle.lapd_image.proofs.Reading.{front-read, list-read}
 use Rattle.lapd_image.specs.Numbers.{contents, list_of}
 use Rattle.lapd_image.specs.Reads.{IsReadAs}
@@ -22,7 +23,7 @@ use Rattle.model_link.specs.Image.{control_frame, link}
 use Rattle.model_link.specs.Same.{IsSameLink}
 use Rattle.model_link.specs.Link as machine
 use Rattle.model_link.specs.declared.states.State.TheVariants.{TeiAssigned, AwaitingEstablishment, AwaitingRelease, Established, TimerRecovery}
-use Rattle.model_link.specs.Sound.{IsSettledIn}
+use Rattle.model_link.specs.Sound.{IsOwing, IsSettledIn}
 use Rattle.model_link.specs.Timed.{IsTimed, IsTimedIn}
 
 -- What follows a head that was read, if the image of a link is there.
@@ -56,7 +57,7 @@ waiting-saved {m = m} same saved = record {
 
 -- What is fit of a link that may be saved.
 abbrev Fit : Terms → machine.Link → Type 0
-Fit t m = IsFit t (length (queue_of m)) (machine.outstanding m) m.again m.state m.own_busy m.pending m.asked m.repeats m.running
+Fit t m = IsFit t (length (queue_of m)) (machine.outstanding m) m.again m.state m.own_busy m.pending m.asked m.owed m.repeats m.running
 
 settled-fit : (state : State) (m : machine.Link) → IsSettledIn state m → IsSettled state m.asked (length (queue_of m))
 settled-fit TeiAssigned m is = omega (arith, length-drop m.a m.contents, is)
@@ -73,12 +74,16 @@ timed-fit Established m (inl t) = inl t
 timed-fit Established m (inr t) = inr (t.0, omega (arith, t.1))
 timed-fit TimerRecovery m is = is
 
+release-fit : {t : Terms} (m : machine.Link) → IsOwing t m → (m.state ≡ AwaitingEstablishment) × (t.reading ≡ AnnexB) × (m.asked ≡ false) × (length (queue_of m) ≡ 0)
+release-fit m owing = (owing.state, owing.reading, owing.asked, omega (arith, length-drop m.a m.contents, owing.queue))
+
 pub fit-saved : {t : Terms} {m : machine.Link} → IsSaved t m → Fit t m
 fit-saved {t} {m} saved = record {
   accepted = omega (arith, length-drop m.a m.contents, saved.sound.again, saved.sound.ordered);
   within = omega (arith, saved.sound.within);
   settled = settled-fit m.state m saved.sound.settled;
   owes_nothing = saved.sound.owes_nothing;
+  release = λ on. release-fit m (saved.sound.owed on);
   repeats = saved.sound.repeats;
   timed = timed-fit m.state m saved.timed.timer;
 }
@@ -86,7 +91,7 @@ fit-saved {t} {m} saved = record {
 pub fit-same : {t : Terms} {l m : machine.Link} → IsSameLink l m → Fit t m → Fit t l
 fit-same {t} {l} {m} same fit =
     subst (λ (x : Type 0). x)
-    (λ i. IsFit t (length (sym same.queue i)) (sym same.sent i) (sym same.again i) (sym same.state i) (sym same.own_busy i) (sym same.pending i) (sym same.asked i) (sym same.repeats i) (sym same.running i)) fit
+    (λ i. IsFit t (length (sym same.queue i)) (sym same.sent i) (sym same.again i) (sym same.state i) (sym same.own_busy i) (sym same.pending i) (sym same.asked i) (sym same.owed i) (sym same.repeats i) (sym same.running i)) fit
 
 -- A link of which all parts are read.
 pub queue-restored : (n : ℕ) (queue : List (List ℕ)) → drop n (replicate n [] ++ queue) ≡ queue
@@ -140,7 +145,10 @@ fit-timed e messages Established (inr t) = inr (t.0, omega (arith, t.1))
 fit-timed e messages TimerRecovery is = is
 
 module _ {t : Terms} {free : ℕ} (e : Entity) {messages : List (List ℕ)} (range : IsInRange t) (queue : AreContents t free messages) (ring : AreWaiting t.control e.waiting.items)
-    (fit : IsFit t (length messages) (outstanding_of e.window) e.again e.state e.own_busy e.pending e.asked e.repeats e.running) where
+    (fit : IsFit t (length messages) (outstanding_of e.window) e.again e.state e.own_busy e.pending e.asked e.owed e.repeats e.running) where
+  owing-read : (e.state ≡ AwaitingEstablishment) × (t.reading ≡ AnnexB) × (e.asked ≡ false) × (length messages ≡ 0) → IsOwing t (restored e messages)
+  owing-read h = record { state = h.0; reading = h.1; asked = h.2; queue = none-queued (va_of e.window).value messages h.3 }
+
   pub sound-read : IsSound t (restored e messages)
   sound-read =
       let va : ℕ = (va_of e.window).value in
@@ -154,6 +162,7 @@ module _ {t : Terms} {free : ℕ} (e : Entity) {messages : List (List ℕ)} (ran
         queue = omega (arith, ap (λ (q : List (List ℕ)). length q) (queue-restored va messages), queue.queue);
         ring = ring.room;
         owes_nothing = fit.owes_nothing;
+        owed = λ on. owing-read (fit.release on);
         repeats = fit.repeats;
         sizes = sizes-read va messages queue;
         frames = λ k d h. is_waiting range.tei (ring.each k d h);
@@ -181,7 +190,7 @@ module _ {t : Terms} {free : ℕ} (e : Entity) {messages : List (List ℕ)} (ran
 
 -- The link stands for it.
 pub becomes-read : {old new : Link} {s u : Store} {free : ℕ} {messages : List (List ℕ)} {front rest : List ℕ} → Takes free messages front rest old s new u → AreWaiting (terms_of old).control new.entity.waiting.items
-    → IsFit (terms_of old) (length messages) (outstanding_of new.entity.window) new.entity.again new.entity.state new.entity.own_busy new.entity.pending new.entity.asked new.entity.repeats new.entity.running
+    → IsFit (terms_of old) (length messages) (outstanding_of new.entity.window) new.entity.again new.entity.state new.entity.own_busy new.entity.pending new.entity.asked new.entity.owed new.entity.repeats new.entity.running
     → new.entity.waiting.capacity ≡ old.entity.waiting.capacity → Stays old new → SameLimits s u → Becomes (restored new.entity messages) old s new u
 becomes-read {old} {new} {s} {u} {messages = messages} takes ring fit capacity stays limits = record {
   stands = λ others fresh.
@@ -200,13 +209,13 @@ becomes-read {old} {new} {s} {u} {messages = messages} takes ring fit capacity s
 }
 
 -- What is read is fit where a link that may be saved is there.
-pub fit-as : {t t' : Terms} {n n' sent again : ℕ} {state : State} {own pending asked : Bool} {rc : ℕ} {running : Option LinkTimer} → t ≡ t' → n ≡ n'
-    → IsFit t n sent again state own pending asked rc running → IsFit t' n' sent again state own pending asked rc running
-fit-as {sent = sent} {again} {state} {own} {pending} {asked} {rc} {running} terms many fit =
-    subst (λ (x : Type 0). x) (λ i. IsFit (terms i) (many i) sent again state own pending asked rc running) fit
+pub fit-as : {t t' : Terms} {n n' sent again : ℕ} {state : State} {own pending asked owed : Bool} {rc : ℕ} {running : Option LinkTimer} → t ≡ t' → n ≡ n'
+    → IsFit t n sent again state own pending asked owed rc running → IsFit t' n' sent again state own pending asked owed rc running
+fit-as {sent = sent} {again} {state} {own} {pending} {asked} {owed} {rc} {running} terms many fit =
+    subst (λ (x : Type 0). x) (λ i. IsFit (terms i) (many i) sent again state own pending asked owed rc running) fit
 
 pub fit-read : {t : Terms} {free : ℕ} {e : Entity} {messages : List (List ℕ)} {front rest : List ℕ} {m : machine.Link} (after : List ℕ) → IsInRange t → IsRead t free e messages front rest
-    → IsSmall e → IsSaved t m → front ≡ link m ++ after → IsFit t (length messages) (outstanding_of e.window) e.again e.state e.own_busy e.pending e.asked e.repeats e.running
+    → IsSmall e → IsSaved t m → front ≡ link m ++ after → IsFit t (length messages) (outstanding_of e.window) e.again e.state e.own_busy e.pending e.asked e.owed e.repeats e.running
 fit-read {t} {e = e} {messages} {rest = rest} {m} after range read low saved is =
     let l : machine.Link = restored e messages in
     let same : IsSameLink l m =
@@ -214,7 +223,7 @@ fit-read {t} {e = e} {messages} {rest = rest} {m} after range read low saved is 
     (small m t.n201 range.n201_high saved.sound.sizes saved.counts) (sym read.octets ∙ is)).0 in
     let sent : machine.outstanding l ≡ outstanding_of e.window = omega arith in
     subst (λ (x : Type 0). x)
-    (λ i. IsFit t (length (queue-restored l.a messages i)) (sent i) e.again e.state e.own_busy e.pending e.asked e.repeats e.running) (fit-same same (fit-saved saved))
+    (λ i. IsFit t (length (queue-restored l.a messages i)) (sent i) e.again e.state e.own_busy e.pending e.asked e.owed e.repeats e.running) (fit-same same (fit-saved saved))
 
 -- Of an entity of which only what waits has changed.
 pub kept-as : {e e' e'' : Entity} → e' ≡ e → e'' ≡ record e' { waiting = e''.waiting } → e'' ≡ record e { waiting = e''.waiting }

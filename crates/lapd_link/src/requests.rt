@@ -7,7 +7,7 @@ ghost use Rattle.model_link.specs.Events as event;
 ghost use Rattle.model_link.specs.Requests as asked;
 
 use crate::link::Link;
-use lapd_frame::Refusal;
+use lapd_frame::{Reading, Refusal};
 use lapd_link_steps::BareReport;
 use lapd_store::Shelf;
 use model_link::State;
@@ -36,8 +36,9 @@ impl Link {
     /// # Errors
     ///
     /// The first of these that holds; then nothing changes, neither link nor report nor shelf. `WrongState`: `Establish` not in
-    /// state 4, `Release` not in 4, 7 or 8, the others not in 7 or 8. `TooLong`: contents over N201. `QueueFull`: the
-    /// link keeps as many contents as it may. `PoolFull`: `slots` contents are held.
+    /// state 4, `Release` not in 4, 7 or 8, the others not in 7 or 8; by annex B `Establish` is served in state 5, too, and
+    /// `Release` once. `TooLong`: contents over N201. `QueueFull`: the link keeps as many contents as it may. `PoolFull`:
+    /// `slots` contents are held.
     #[inline(always)]
     pub fn request<S: Shelf>(
         &mut self,
@@ -81,7 +82,8 @@ impl Link {
             result ≡ asked.refusal (terms_of self.now) m pool_is_full (request_of request.entry) }
         ensures room { IfNone result (HasRoom (request_of request.entry) self.now pool_is_full) }
     {
-        if !serves(self.entity.state(), request) {
+        let owed = self.entity.is_owed();
+        if !serves(self.terms.reading, self.entity.state(), owed, request) {
             return Some(Refusal::WrongState);
         }
         match request {
@@ -121,7 +123,7 @@ impl Link {
     {
         let before = self.entity.running();
         match request {
-            LinkRequest::Establish => self.entity.establish_in_4(&self.terms, report),
+            LinkRequest::Establish => self.entity.ask_establishment(&self.terms, report),
             LinkRequest::Release => self.entity.release(&self.terms, report),
             LinkRequest::Data(octets) => self.keep(octets, shelf),
             LinkRequest::SetBusy => self.entity.set_busy_in_7_8(&self.terms, report),
@@ -146,15 +148,26 @@ impl Link {
     }
 }
 
-// Whether the state serves the request.
-fn serves(state: State, request: LinkRequest<'_>) -> bool
-    ensures { result ≡ asked.serves state (request_of request.entry) }
+// Whether the state serves the request, while a release is owed or none is.
+fn serves(reading: Reading, state: State, owed: bool, request: LinkRequest<'_>) -> bool
+    ensures { result ≡ asked.serves reading state owed (request_of request.entry) }
 {
+    let is_awaiting = is_awaiting_5(reading, state);
     let is_down = matches!(state, State::TeiAssigned);
     let is_up = matches!(state, State::Established | State::TimerRecovery);
     match request {
-        LinkRequest::Establish => is_down,
-        LinkRequest::Release => is_down || is_up,
+        LinkRequest::Establish => is_down || is_awaiting,
+        LinkRequest::Release => is_down || is_up || (is_awaiting && !owed),
         LinkRequest::Data(_) | LinkRequest::SetBusy | LinkRequest::ClearBusy => is_up,
+    }
+}
+
+// Whether the establishment is awaited by annex B, which then serves more.
+fn is_awaiting_5(reading: Reading, state: State) -> bool
+    ensures { result ≡ asked.is_awaiting_5 reading state }
+{
+    match reading {
+        Reading::Profile => false,
+        Reading::AnnexB => matches!(state, State::AwaitingEstablishment),
     }
 }

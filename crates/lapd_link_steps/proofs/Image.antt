@@ -9,12 +9,11 @@ use Rattle.lapd_link_steps.specs.Image.{IsHead, head, octets_of}
 use Rattle.lapd_link_steps.specs.declared.heads.Octets.{Octets}
 use Rattle.lapd_seq.proofs.Callers.{seq-value}
 use Rattle.model_bits.specs.Bits.{number_of}
-use Rattle.model_link.specs.Image.{counts, link_flags}
+use Rattle.model_link.specs.Image.{counts, link_flags, state_octet}
 use Rattle.model_link.specs.declared.counts.LinkCounts.{LinkCounts}
-use Rattle.model_link.specs.Link.{state_number}
 
 -- What an entity writes before the contents is the head of the link for which it rests.
-pub head-resting : {terms : Terms} {e : Entity} {m : Link} {state flags va out : ℕ} → Rests terms e m → state ≡ state_number e.state
+pub head-resting : {terms : Terms} {e : Entity} {m : Link} {state flags va out : ℕ} → Rests terms e m → state ≡ state_octet (link_of e (past_at m))
     → flags ≡ number_of (link_flags (link_of e (past_at m))) → va ≡ e.window.va.value → m.a + out ≡ m.s
     → state ∷ flags ∷ e.repeats ∷ va ∷ out ∷ e.vr.value ∷ e.again ∷ counts e.counts ≡ head m
 head-resting {terms} {e} {m} {state} {flags} {va} {out} rests is-state is-flags is-va sent =

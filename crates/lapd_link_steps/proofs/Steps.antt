@@ -47,6 +47,9 @@ module _ {terms : Terms} {info : List ℕ} {e : Entity} {t : BareReport} where
   pub asked_set : {b : Bool} → Does terms info (word.asked_is b) e t (record e { asked = b }) t
   asked_set = record { step = λ messages p fits. record { fits = still-fits refl refl refl fits; is = refl } }
 
+  pub owed_set : {b : Bool} → Does terms info (word.owed_is b) e t (record e { owed = b }) t
+  owed_set = record { step = λ messages p fits. record { fits = still-fits refl refl refl fits; is = refl } }
+
   pub repeats_set : {n : ℕ} → Does terms info (word.repeats_are n) e t (record e { repeats = n }) t
   repeats_set = record { step = λ messages p fits. record { fits = still-fits refl refl refl fits; is = refl } }
 

@@ -30,11 +30,11 @@ pub use Rattle.lapd_seq.specs.Numbers.{seq}
 pub use Rattle.lapd_seq.specs.Windows.{WindowStands}
 pub use Rattle.lapd_seq.specs.declared.numbers.Seq.{Seq}
 pub use Rattle.model_link.specs.Established.{unsolicited}
-pub use Rattle.model_link.specs.Link.{Link, frame_of, has_outstanding, is_asked, is_own_busy, is_peer_busy, is_rejecting, may_repeat, queue_of}
+pub use Rattle.model_link.specs.Link.{Link, frame_of, has_outstanding, is_asked, is_owed, is_own_busy, is_peer_busy, is_rejecting, may_repeat, queue_of}
 pub use Rattle.model_link.specs.Machine.{expired_in, frame_in, given, given_of, malformed_in, told_of_clearing}
 pub use Rattle.model_link.specs.MultipleFrame.{failed, long_unit_in_7_8}
 pub use Rattle.model_link.specs.Offers.{give_information, is_awaiting_acknowledgement, is_pending, may_send_information, offer_among, offer_step, send_acknowledgement, send_information, with_one_sent}
-pub use Rattle.model_link.specs.Requests.{release_in}
+pub use Rattle.model_link.specs.Requests.{establish_in, release_in}
 pub use Rattle.model_link.specs.Steps.{Course, Sent, Step, begun, by_bit, changed, depending_on, nothing, ◌then◌}
 pub use Rattle.model_link.specs.Words.{acknowledge, begin_anew, by_number, command, deliver_unit, leave_unserved, malformed, pending_is, start}
 pub use Rattle.model_link.specs.declared.frames.ControlFrame.{ControlFrame}

@@ -1,16 +1,17 @@
 -- A link in an image of its card, without its contents.
 use Rattle.std.specs.Prelude.{◌≡◌, ℕ, ◌+◌, ◌*◌, ◌%◌, ◌≤◌, ◌⊎◌, Bool, false, IsTrue, List, [], ◌∷◌, ◌++◌, length, replicate, All, Option, None, Some}
 use Rattle.lapd_frame.specs.Grammar.{allows, row, takes}
+use Rattle.lapd_frame.specs.declared.readings.Reading.TheVariants.{AnnexB}
 use Rattle.lapd_seq.specs.Windows.{outstanding_of, va_of}
 use Rattle.model_bits.specs.Bits.{bit_value, number_of}
-use Rattle.model_link.specs.Image.{counted_of, counts, link_flags}
+use Rattle.model_link.specs.Image.{counted_of, counts, link_flags, state_octet}
 use Rattle.model_link.specs.declared.frames.ControlFrame.{ControlFrame}
 use Rattle.model_link.specs.declared.states.State.{State}
 use Rattle.model_link.specs.declared.states.State.TheVariants.{TeiAssigned, AwaitingEstablishment, AwaitingRelease, Established, TimerRecovery}
 use Rattle.model_link.specs.declared.terms.Terms.{Terms}
 use Rattle.model_link.specs.declared.timers.LinkTimer.{LinkTimer}
 use Rattle.model_link.specs.declared.timers.LinkTimer.TheVariants.{T200, T203}
-use Rattle.model_link.specs.Link.{Link, most_rc, outstanding, state_number}
+use Rattle.model_link.specs.Link.{Link, most_rc, outstanding}
 use Rattle.model_link.specs.Sound.{is_information}
 use Rattle.model_link.specs.Told.{runs}
 use Rattle.lapd_link_steps.specs.declared.entity.Entity.{Entity}
@@ -20,7 +21,7 @@ use Rattle.lapd_link_steps.specs.Past.{link_of}
 -- What an image has of a link before its contents (`link` of `model_link`).
 abbrev pub head : Link → List ℕ
 head l =
-    state_number l.state ∷ number_of (link_flags l) ∷ l.repeats ∷ l.a % 128 ∷ outstanding l ∷ l.r % 128 ∷ l.again ∷ counts l.counts
+    state_octet l ∷ number_of (link_flags l) ∷ l.repeats ∷ l.a % 128 ∷ outstanding l ∷ l.r % 128 ∷ l.again ∷ counts l.counts
 
 -- No more are outstanding than may be of any link (Q.921 clause 5.9.5).
 abbrev pub IsHead : Link → Type 0
@@ -77,11 +78,17 @@ IsTimed AwaitingRelease running sent = running ≡ Some T200
 IsTimed Established running sent = (running ≡ Some T200) ⊎ ((running ≡ Some T203) × (sent ≡ 0))
 IsTimed TimerRecovery running sent = running ≡ Some T200
 
+-- A release is owed rightly (`IsOwing` of `model_link`).
+abbrev pub OwesRightly : Terms → ℕ → State → Bool → Bool → Type 0
+OwesRightly t queued state asked owed =
+    IsTrue owed → (state ≡ AwaitingEstablishment) × (t.reading ≡ AnnexB) × (asked ≡ false) × (queued ≡ 0)
+
 -- A link that may be saved, of which so many contents are queued, so many of them outstanding, and so many of the others go again.
-pub record IsFit (t : Terms) (queued sent again : ℕ) (state : State) (own_busy pending asked : Bool) (rc : ℕ) (running : Option LinkTimer) : Type 0 where
+pub record IsFit (t : Terms) (queued sent again : ℕ) (state : State) (own_busy pending asked owed : Bool) (rc : ℕ) (running : Option LinkTimer) : Type 0 where
   pub accepted : sent + again ≤ queued
   pub within : sent ≤ t.k
   pub settled : IsSettled state asked queued
   pub owes_nothing : IsTrue own_busy → pending ≡ false
+  pub release : OwesRightly t queued state asked owed
   pub repeats : rc ≤ most_rc t
   pub timed : IsTimed state running sent

@@ -22,7 +22,7 @@ pub use Rattle.model_link.specs.declared.frames.ControlFrame.{ControlFrame}
 pub use Rattle.model_link.specs.declared.terms.Terms.{Terms}
 pub use Rattle.lapd_link_steps.specs.Does.{Adds, Changes, DoesBy, HasRoom, Tells}
 pub use Rattle.lapd_link_steps.specs.Done.{Gives, IsFresh, Rests, given_of}
-pub use Rattle.lapd_link_steps.specs.Parts.{awaiting, effect_of, malformed_by_state, particulars, released_by_state, renewed, supervisory, told_of_clearing_by_state, told_of_establishment}
+pub use Rattle.lapd_link_steps.specs.Parts.{awaiting, effect_of, established_by_state, malformed_by_state, particulars, released_by_state, renewed, supervisory, told_of_clearing_by_state, told_of_establishment}
 pub use Rattle.lapd_link_steps.specs.Past.{Fits, link_of}
 pub use Rattle.lapd_link_steps.specs.Quiet.{IsQuiet}
 pub use Rattle.lapd_link_steps.specs.Reports.{IsClear, cause_in, counting, delivered_in, has_contents}

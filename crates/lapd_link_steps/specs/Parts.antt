@@ -12,7 +12,7 @@ use Rattle.model_link.specs.Machine.{malformed_in, told_of_clearing}
 use Rattle.model_link.specs.MultipleFrame.{Particulars, answered, is_final}
 use Rattle.model_link.specs.Established.{either_way, particulars_in_7}
 use Rattle.model_link.specs.TimerRecovery.{particulars_in_8}
-use Rattle.model_link.specs.Requests.{release_in}
+use Rattle.model_link.specs.Requests.{establish_in, release_in}
 use Rattle.model_link.specs.Offers.{is_awaiting_acknowledgement}
 use Rattle.model_link.specs.declared.timers.LinkTimer.TheVariants.{T200}
 use Rattle.lapd_link_steps.specs.declared.states.multiple_frame.Bearer.{Bearer}
@@ -39,6 +39,9 @@ told_of_establishment t = depending_on is_asked (establish_confirm t) (renewed t
 -- Rows by the state that the link is in.
 abbrev pub malformed_by_state : Terms → ErrorCode → Step
 malformed_by_state t e c = malformed_in c.link.state t e c
+
+abbrev pub established_by_state : Terms → Step
+established_by_state t c = establish_in c.link.state t c
 
 abbrev pub released_by_state : Terms → Step
 released_by_state t c = release_in c.link.state t c

@@ -46,6 +46,7 @@ link_of e p = record {
   rejecting = e.rejecting;
   pending = e.pending;
   asked = e.asked;
+  owed = e.owed;
   repeats = e.repeats;
   running = e.running;
   waiting = e.waiting.items;

@@ -27,6 +27,8 @@ pub struct Entity {
     pub(crate) pending: bool,
     // layer 3 asked for the establishment that is awaited
     pub(crate) asked: bool,
+    // layer 3 asked for the release in state 5, and it is to be carried out (annex B)
+    pub(crate) owed: bool,
     // RC
     pub(crate) repeats: u8,
     pub(crate) running: Option<LinkTimer>,
@@ -58,6 +60,7 @@ impl Entity {
             rejecting: false,
             pending: false,
             asked: false,
+            owed: false,
             repeats: 0,
             running: None,
             counts: LinkCounts::none(),
@@ -70,6 +73,13 @@ impl Entity {
         ensures { result ≡ self.now.state }
     {
         self.state
+    }
+
+    /// Whether a release is owed.
+    pub fn is_owed(&self) -> bool
+        ensures { result ≡ self.now.owed }
+    {
+        self.owed
     }
 
     /// The timer that runs.

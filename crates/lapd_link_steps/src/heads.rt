@@ -1,11 +1,11 @@
 //! What an image of a card has of a link before its contents.
 
-ghost use Rattle.std.specs.Prelude.{◌≡◌, ◌↔◌, ◌⊎◌, ℕ, ◌<◌, ◌≤◌, [], ◌++◌, length, All, IsTrue, Option, IfOk, OnOk, OnErr};
+ghost use Rattle.std.specs.Prelude.{◌≡◌, ◌↔◌, ◌⊎◌, ℕ, ◌<◌, ◌≤◌, [], ◌++◌, length, All, Bool, IsTrue, Option, IfOk, OnOk, OnErr};
 ghost use Rattle.lapd_image.specs.Numbers.{number};
 ghost use Rattle.lapd_image.specs.Puts.{Puts};
 ghost use Rattle.lapd_image.specs.Reads.{HasNone};
 ghost use Rattle.lapd_link_steps.specs.{Link, Rests, Terms, link_of, outstanding_of, va_of};
-ghost use Rattle.lapd_link_steps.specs.Image.{IsFit, IsHead, IsSettled, IsSmall, IsTimed, head, octets_of, restored, timer_bits};
+ghost use Rattle.lapd_link_steps.specs.Image.{IsFit, IsHead, IsSettled, IsSmall, IsTimed, OwesRightly, head, octets_of, restored, timer_bits};
 ghost use Rattle.lapd_link_steps.specs.Past.{Past};
 ghost use Rattle.model_bits.specs.Bits.{bit_value, number_of};
 ghost use Rattle.model_link.specs.Image as image;
@@ -15,6 +15,7 @@ ghost use Rattle.model_link.specs.Link.{state_number};
 
 use crate::entity::Entity;
 use crate::timers::most_repeats;
+use lapd_frame::Reading;
 use lapd_image::{BadImage, Reader, put_number, put_octet};
 use lapd_seq::{Seq, Window};
 use model_link::{LinkCounts, LinkTimer, State, Terms};
@@ -39,7 +40,7 @@ impl Entity {
         ensures puts { (terms : Terms) (m : Link) → Rests terms self.now m → Puts (head m) at out.old result out.new }
         ensures small { IsSmall self.now }
     {
-        let at = put_octet(out, at, self.state.number());
+        let at = put_octet(out, at, self.state_octet());
         let at = put_octet(out, at, self.flags());
         let at = put_octet(out, at, self.repeats);
         let at = put_octet(out, at, self.window.va().value);
@@ -74,7 +75,8 @@ impl Entity {
         ensures none { OnErr result ((m : Link) → IsHead m → octets_of octets ++ image.counts counts ≡ head m → ⊥) }
         ensures waiting { self.new.waiting ≡ self.old.waiting }
     {
-        self.state = state_of(octets.state)?;
+        self.state = state_of(octets.state % 64)?;
+        self.owed = owed_of(octets.state / 64)?;
         self.running = timer_of(octets.flags / 32)?;
         self.window = window_of(octets.va, octets.outstanding)?;
         self.vr = seq_of(octets.vr)?;
@@ -92,13 +94,14 @@ impl Entity {
     /// Whether a link with these parameters can be so while so many contents are queued.
     pub fn is_fit(&self, terms: &Terms, queued: usize) -> bool
         ensures { IsTrue result ↔ IsFit terms.now queued (outstanding_of self.now.window) self.now.again self.now.state self.now.own_busy self.now.pending
-            self.now.asked self.now.repeats self.now.running }
+            self.now.asked self.now.owed self.now.repeats self.now.running }
     {
         let outstanding = self.window.outstanding();
         usize::from(outstanding) + usize::from(self.again) <= queued
             && outstanding <= terms.k
             && (queued == 0 || self.may_keep())
             && !(self.own_busy && self.pending)
+            && self.owes_rightly(terms, queued)
             && self.repeats <= most_repeats(terms)
             && self.is_timed(outstanding)
     }
@@ -114,6 +117,18 @@ impl Entity {
         }
     }
 
+    // Whether a release may be owed if one is, while so many contents are queued.
+    fn owes_rightly(&self, terms: &Terms, queued: usize) -> bool
+        ensures { IsTrue result ↔ OwesRightly terms.now queued self.now.state self.now.asked self.now.owed }
+    {
+        if !self.owed {
+            return true;
+        }
+        let may_owe = matches!(self.state, State::AwaitingEstablishment)
+            && matches!(terms.reading, Reading::AnnexB);
+        may_owe && !self.asked && queued == 0
+    }
+
     // Whether its timer is that of its state, while so many are outstanding.
     fn is_timed(&self, outstanding: u8) -> bool
         ensures { IsTrue result ↔ IsTimed self.now.state self.now.running outstanding }
@@ -127,6 +142,13 @@ impl Entity {
                 self.runs(LinkTimer::T200)
             }
         }
+    }
+
+    // The octet of the state.
+    fn state_octet(&self) -> u8
+        ensures { (past : Past) → result ≡ image.state_octet (link_of self.now past) }
+    {
+        self.state.number() + 64 * bit(self.owed)
     }
 
     // The octet of the flags.
@@ -223,6 +245,18 @@ fn state_of(octet: u8) -> Result<State, BadImage>
         6 => Ok(State::AwaitingRelease),
         7 => Ok(State::Established),
         8 => Ok(State::TimerRecovery),
+        _ => Err(BadImage),
+    }
+}
+
+// Whether a release is owed, by what stands above the state.
+fn owed_of(bits: u8) -> Result<bool, BadImage>
+    ensures is { IfOk result (λ owed. bit_value owed ≡ bits) }
+    ensures none { OnErr result ((owed : Bool) → bit_value owed ≡ bits → ⊥) }
+{
+    match bits {
+        0 => Ok(false),
+        1 => Ok(true),
         _ => Err(BadImage),
     }
 }

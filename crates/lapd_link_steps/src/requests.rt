@@ -1,7 +1,7 @@
 //! What layer 3 asks for, and the end of a TEI.
 
 ghost use Rattle.std.specs.Prelude.{ℕ, List};
-ghost use Rattle.lapd_link_steps.specs.{cleared_step, IsFresh, HasRoom, Tells, released_by_state, told_of_clearing_by_state};
+ghost use Rattle.lapd_link_steps.specs.{cleared_step, IsFresh, HasRoom, Tells, established_by_state, released_by_state, told_of_clearing_by_state};
 ghost use Rattle.lapd_link_steps.specs.Does.{Does};
 
 use crate::entity::Entity;
@@ -11,7 +11,20 @@ use lapd_seq::{Seq, Window};
 use model_link::{LinkCounts, State, Terms};
 
 impl Entity {
-    /// Layer 3 asks for the release. In states 5 and 6 nothing is done.
+    /// Layer 3 asks for the establishment. In states 6 to 8 nothing is done.
+    pub fn ask_establishment(&mut self, terms: &Terms, told: &mut BareReport)
+        requires { HasRoom 2 2 told.old }
+        ensures tells { Tells 2 2 told.old told.new }
+        ensures does { (info : List ℕ) → Does terms.now info (established_by_state terms.now) self.old told.old self.new told.new }
+    {
+        match self.state {
+            State::TeiAssigned => self.establish_in_4(terms, told),
+            State::AwaitingEstablishment => self.establish_in_5(told),
+            State::AwaitingRelease | State::Established | State::TimerRecovery => {}
+        }
+    }
+
+    /// Layer 3 asks for the release. In state 6 nothing is done.
     pub fn release(&mut self, terms: &Terms, told: &mut BareReport)
         requires { HasRoom 2 2 told.old }
         ensures tells { Tells 2 2 told.old told.new }
@@ -19,7 +32,8 @@ impl Entity {
     {
         match self.state {
             State::TeiAssigned => told.note(Note::ReleaseConfirm(terms.service, terms.tei)),
-            State::AwaitingEstablishment | State::AwaitingRelease => {}
+            State::AwaitingEstablishment => self.release_in_5(told),
+            State::AwaitingRelease => {}
             State::Established | State::TimerRecovery => self.release_in_7_8(terms, told),
         }
     }
@@ -37,16 +51,17 @@ impl Entity {
         told.released = ALL;
     }
 
-    fn tell_clearing(&self, terms: &Terms, told: &mut BareReport)
+    fn tell_clearing(&mut self, terms: &Terms, told: &mut BareReport)
         requires { HasRoom 1 0 told.old }
         ensures tells { Tells 1 0 told.old told.new }
         ensures does { (info : List ℕ) →
-            Does terms.now info (told_of_clearing_by_state terms.now) self.now told.old self.now told.new }
+            Does terms.now info (told_of_clearing_by_state terms.now) self.old told.old self.new told.new }
     {
         match self.state {
             State::TeiAssigned => {}
             State::AwaitingRelease => told.note(Note::ReleaseConfirm(terms.service, terms.tei)),
-            State::AwaitingEstablishment | State::Established | State::TimerRecovery => {
+            State::AwaitingEstablishment => self.tell_failure(terms, told),
+            State::Established | State::TimerRecovery => {
                 told.note(Note::ReleaseIndication(terms.service, terms.tei));
             }
         }
@@ -65,6 +80,7 @@ impl Entity {
         self.rejecting = false;
         self.pending = false;
         self.asked = false;
+        self.owed = false;
         self.repeats = 0;
         self.running = None;
         self.waiting.clear();

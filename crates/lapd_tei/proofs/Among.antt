@@ -1,14 +1,15 @@
 -- Check responses: one with more Ai than one is read by its places.
-use Rattle.lapd_tei.proofs.Vocabulary.{◌≡◌, ℕ, ◌≤◌, ◌<◌, ◌&&◌, Bool, true, false, cond, List, [], ◌∷◌, length, drop, refl, sym, ap, arith, list_any, Option, Some, None, has_actions, names, responses_in, is_among, slice_index, Check, Course, respond, count, counted}
+use Rattle.lapd_tei.proofs.Vocabulary.{◌≡◌, ℕ, ◌≤◌, ◌<◌, ◌==◌, ◌&&◌, Bool, true, false, cond, List, [], ◌∷◌, length, drop, refl, sym, ap, arith, Option, Some, None, is_last, position, responses_in, is_among, slice_index, up_to, Check, Course, respond, count, counted}
 use Rattle.model_teis.proofs.Tables.{is_same}
 
-of_test : (tei : ℕ) (b : Bool) (octets : List ℕ) → is_among tei (cond b (Some octets) None) ≡ (b && list_any (names tei) octets)
-of_test tei true octets = refl
-of_test tei false octets = refl
+of_test : (tei : ℕ) (b : Bool) (teis : Option (List ℕ)) → is_among tei (cond b teis None) ≡ (b && is_among tei teis)
+of_test tei true teis = refl
+of_test tei false teis = refl
 
 pub among : (tei : ℕ) (octets : List ℕ) → 4 ≤ length octets
-    → is_among tei (responses_in octets) ≡ (has_actions (slice_index octets 0) (slice_index octets 3) (drop 4 octets) && list_any (names tei) (drop 4 octets))
-among tei (entity ∷ high ∷ low ∷ type ∷ octets) long = of_test tei (has_actions entity type octets) octets
+    → is_among tei (responses_in octets)
+    ≡ ((slice_index octets 0 == 0x0F && slice_index octets 3 == 5) && is_among tei (up_to (drop 4 octets) (position is_last (drop 4 octets))))
+among tei (entity ∷ high ∷ low ∷ type ∷ octets) long = of_test tei (entity == 0x0F && type == 5) (up_to octets (position is_last octets))
 among tei [] long = absurd (omega (arith, long))
 among tei (a ∷ []) long = absurd (omega (arith, long))
 among tei (a ∷ b ∷ []) long = absurd (omega (arith, long))

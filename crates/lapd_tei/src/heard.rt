@@ -2,21 +2,22 @@
 
 ghost use Rattle.std.specs.Prelude.{◌≡◌, ◌<◌, length, IfSome};
 ghost use Rattle.std.specs.List.{list_any, position};
-ghost use Rattle.model_teis.specs.network.Messages.{has_actions, heard_in, is_extended, is_last, names, responses_in};
+ghost use Rattle.model_teis.specs.network.Messages.{heard_in, is_last, names, responses_in, up_to};
 ghost use Rattle.model_teis.specs.network.Rows.{is_among};
 
-use crate::information::{ENTITY, NO_TEI};
+use crate::information::{ENTITY, NO_TEI, looked_at};
 use crate::table::LOWEST;
+use lapd_frame::Reading;
 use model_teis::network::Heard;
 
-// How many Ai a check response has, if it has more than one: a limit of ours (profile).
+// How many Ai a check response has at most: a limit of ours (profile).
 const MOST_ACTIONS: usize = 64;
 
 /// Which message the information of a UI frame is.
-pub(crate) fn read(information: &[u8]) -> Option<Heard>
-    ensures { result ≡ heard_in information.now }
+pub(crate) fn read(reading: Reading, information: &[u8]) -> Option<Heard>
+    ensures { result ≡ heard_in reading information.now }
 {
-    let &[entity, high, low, kind, last] = information else {
+    let &[entity, high, low, kind, last] = looked_at(reading, information) else {
         return None;
     };
     if entity != ENTITY || last % 2 != 1 {
@@ -33,7 +34,7 @@ pub(crate) fn read(information: &[u8]) -> Option<Heard>
     }
 }
 
-/// Whether the TEI is among those of a check response with more Ai than one (Q.921 clause 5.3.3.2).
+/// Whether the TEI is among those of a check response, which may have more Ai than one (Q.921 clause 5.3.3.2).
 #[tactic(auto, using(crate::proofs::Among::among, crate::proofs::Among::too_few))]
 pub(crate) fn is_among(tei: u8, information: &[u8]) -> bool
     ensures { result ≡ is_among tei (responses_in information.now) }
@@ -41,25 +42,16 @@ pub(crate) fn is_among(tei: u8, information: &[u8]) -> bool
     if information.len() < 4 {
         return false;
     }
-    let actions = &information[4..];
-    has_actions(information[0], information[3], actions) && names(actions, tei)
+    information[0] == ENTITY && information[3] == 5 && is_named(tei, &information[4..])
 }
 
-// Whether these are the Ai of a check response.
-fn has_actions(entity: u8, kind: u8, actions: &[u8]) -> bool
-    ensures { result ≡ has_actions entity kind actions.now }
+// Whether it is among the Ai up to the last, after which nothing is looked at.
+fn is_named(tei: u8, actions: &[u8]) -> bool
+    ensures { result ≡ is_among tei (up_to actions.now (position is_last actions.now)) }
 {
-    let few = actions.len() >= 2 && actions.len() <= MOST_ACTIONS;
-    entity == ENTITY && kind == 5 && few && is_extended(actions)
-}
-
-// Whether bit 1 is 0 in all octets but the last.
-fn is_extended(octets: &[u8]) -> bool
-    ensures { result ≡ is_extended octets.now }
-{
-    match last(octets) {
-        Some(place) => place + 1 == octets.len(),
-        None => false,
+    match last(actions) {
+        Some(place) if place < MOST_ACTIONS => names(&actions[..place + 1], tei),
+        _ => false,
     }
 }
 

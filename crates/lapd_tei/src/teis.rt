@@ -89,7 +89,7 @@ impl Teis {
         ensures after { self.new ≡ after (message information.now) self.old }
         ensures short { IsShort result }
     {
-        match heard::read(information) {
+        match heard::read(self.reading, information) {
             Some(Heard::IdentityRequest { ri }) => self.request(ri),
             Some(Heard::IdentityRequestOf { ri, tei }) => self.request_of(ri, tei),
             Some(Heard::IdentityVerify { tei }) => self.verify(tei),

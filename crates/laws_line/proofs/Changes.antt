@@ -6,7 +6,6 @@ use Rattle.laws_line.proofs.Vocabulary.{is_some, Order, Follows, t201_follows}
 use Rattle.lapd_frame.specs.declared.notes.Note.TheVariants as notes
 use Rattle.lapd_frame.specs.declared.timers.Order.TheVariants as orders
 use Rattle.lapd_frame.specs.declared.timers.Timer.TheVariants as timers
-use Rattle.model_teis.specs.network.Events as teis
 use Rattle.model_teis.specs.network.Laws as tei_laws
 use Rattle.model_teis.proofs.OfNetwork.LawLemmas as tei_lemmas
 use Rattle.model_teis.specs.terminal.Events as terminals
@@ -81,7 +80,7 @@ module _ (c : Config) (l : Line) (s : IsSound c l) (P : Effect → Type 0)
   there is e range =
       let led = leads e t range (sides is).0 in
       let after = terminal_after e t in
-      turns (terminal_told e t).change (told_of_management (terminal_told e t)) (record l.management { places = after.places })
+      turns (terminal_told e t).change (told_of_management (terminal_told e t)) (record l.management { reading = after.reading; places = after.places })
       (record { number = after.number; procedure = after.procedure; waiting = after.waiting })
       (record { moves = led.moves; table = led.sound.table; quiet = of_terminal_notes (terminal_told e t).notes (brief.noted e t); contents = refl; ordered = of_t202 (is_some t.procedure) (is_some after.procedure) (terminal_told e t).orders (t202_follows e t); keeps = (refl, refl) })
 
@@ -115,7 +114,7 @@ module _ (c : Config) (l : Line) (s : IsSound c l) (P : Effect → Type 0)
   at_rest true is = there is terminals.expiry tt
   at_rest false net =
       let none = subst (λ b. IsOfSide b l.management l.own) net s.own in
-      subst (λ (course : Course). P (of_change c course.told.change (told_of_management course.told) (record l { management = record l.management { places = course.now.places }; own = record { number = course.now.number; procedure = course.now.procedure; waiting = course.now.waiting } })))
+      subst (λ (course : Course). P (of_change c course.told.change (told_of_management course.told) (record l { management = record l.management { reading = course.now.reading; places = course.now.places }; own = record { number = course.now.number; procedure = course.now.procedure; waiting = course.now.waiting } })))
       (sym (idle_course c l s none.0)) idle
 
   pub turned-there : (e : TerminalEvent) → IsOwnEvent c e → P (of_terminal c e l)

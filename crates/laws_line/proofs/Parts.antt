@@ -101,7 +101,7 @@ module _ (c : Config) (l : Line) (s : IsSound c l) where
       let x = terminal_in l in
       let after_it = terminals.after te x in
       let t = told_of_management (terminals.told te x) in
-      let m : Management = record l.management { places = after_it.places } in
+      let m : Management = record l.management { reading = after_it.reading; places = after_it.places } in
       let own : Own = record { number = after_it.number; procedure = after_it.procedure; waiting = after_it.waiting } in
       let o = (terminals.told te x).change in
       let links = of-links c l s t m own o (leads te x fits (subst (λ b. IsOfSide b l.management l.own) is s.own).0).moves in

@@ -1,11 +1,12 @@
 -- Which event of TEI management changes the table, and what is noted of it: each row.
-use Rattle.laws_line.proofs.Vocabulary.{arith, ◌≡◌, ℕ, ◌==◌, nat_le, Bool, true, false, cond, List, [], ◌∷◌, Option, Some, None, IfSome, refl, sym, subst, ap, ◌∙◌, true≢false, Note, Assigned, Removed, Doubled, Refusal, Period, First, Second, Settling, Reading, AnnexB, Profile, IdentityCheckRequest, IdentityDenied, IdentityRemove, Change, Gained, Left, heard_in, heard_of_type, responses_in}
+use Rattle.laws_line.proofs.Vocabulary.{arith, ◌≡◌, ℕ, ◌==◌, nat_le, Bool, true, false, cond, List, [], ◌∷◌, Option, Some, None, IfSome, refl, sym, subst, ap, ◌∙◌, true≢false, Note, Assigned, Removed, Doubled, Refusal, Period, First, Second, Settling, Reading, AnnexB, Profile, IdentityCheckRequest, IdentityDenied, IdentityRemove, Change, Gained, Left, heard_of_type, responses_in}
 use Rattle.laws_line.proofs.Vocabulary.{Places, is_on, place_of, Management, next_checked, Step, no_room, send, lose_one, tei_note as note, unserved, leave, left, check_is, list_any, begin_next, end_check, stop_check, tei_read_as as read_as, check_is_due, remembered_in, assign_new, assign, assigns_for, answer_request, tei_request as request, request_anew, request_of, asks_for, ask_once, verify}
 use Rattle.laws_line.proofs.Vocabulary.{verify_beside, verify_later, responses, doubled, count, respond, is_among, respond_among, serve, removed}
 use Rattle.laws_line.proofs.Vocabulary.{is_unanswered, expire_period, expire_check, nothing_happens, join_at, take_off, is_checked, message, remove, course, IsSoundCheck, option_map, eqb-true, TeiCheck as Check, Course, tei_begun as begun, tei_counted as counted, TeiEvent as Event}
 use Rattle.laws_line.proofs.Vocabulary.{tei_expiry as expiry, assigning, tei_refusal as refusal, tei_unless_refused as unless_refused, down_gives_up, TeiIsSound as IsSound}
 use Rattle.model_line.proofs.Places.{is-off}
 use Rattle.lapd_frame.specs.Readings.{by_reading}
+use Rattle.model_teis.specs.Information.{heard_by, looked_at}
 
 -- A change of the table has its event, and its note.
 abbrev pub GainedBy : Event → ℕ → List Note → Type 0
@@ -142,7 +143,7 @@ module _ (octets : List ℕ) (m : Management) (s : IsSound m) where
   by-frame : (type ri action : ℕ) (b : Bool) (teis : Option (List ℕ)) → Noted (message octets) (serve (cond b (heard_of_type type ri action) None) teis (begun m))
   by-frame type ri action b teis = grind (arith, requests, requests-of, responds, verifies, others)
 
-  serves : (heard : List ℕ) (teis : Option (List ℕ)) → Noted (message octets) (serve (heard_in heard) teis (begun m))
+  serves : (heard : List ℕ) (teis : Option (List ℕ)) → Noted (message octets) (serve (heard_by heard_of_type heard) teis (begun m))
   serves heard teis = grind (arith, by-frame, others)
 
 removes : (tei : ℕ) (m : Management) → is_on tei m.places ≡ true → Noted expiry (removed tei (begun m))
@@ -183,7 +184,7 @@ unless e o does m x = grind arith
 
 pub noted : (e : Event) (m : Management) → IsSound m → Noted e (course e m)
 unfolding course refusal
-noted (message octets) m s = serves octets m s octets (responses_in octets)
+noted (message octets) m s = serves octets m s (looked_at m.reading octets) (responses_in octets)
 noted expiry m s = expires m m.check s.checked
 noted (remove tei) m s = unless (remove tei) _ (take_off tei) m (takes_off tei m (is_checked tei m.check))
 noted e m s = grind (arith, unless, joins, down_gives_up)

@@ -1,7 +1,6 @@
 -- Where all that a link keeps goes, layer 3 learns it.
 use Rattle.laws_line.proofs.Vocabulary.{arith, ◌≡◌, ◌≢◌, ℕ, true, ◌&&◌, ◌==◌, List, get_or, Option, None, eq-eqb, get_or-set_same, none-some, Service, same_service, Terms, Change, is_change_at, eqb-true}
 use Rattle.model_teis.specs.Changes.{Moves}
-use Rattle.model_teis.specs.network.Laws as tei_laws
 
 -- A note of a link that tells a loss tells it of this link.
 pub its-own : (t : Terms) (s : Service) (n : ℕ) → (s ≡ t.service) × (n ≡ t.tei) → (same_service s t.service && n == t.tei) ≡ true

@@ -71,7 +71,7 @@ unfoldable pub use Rattle.model_teis.specs.network.Events.{course, refusal as te
 pub use Rattle.model_teis.specs.Changes.{Moves, left}
 pub use Rattle.model_teis.specs.network.Laws.{Follows}
 pub use Rattle.model_teis.specs.network.Machine.{Management, next_checked}
-pub use Rattle.model_teis.specs.network.Messages.{frame_of, heard_in, heard_of_type, responses_in}
+pub use Rattle.model_teis.specs.network.Messages.{frame_of, heard_of_type, responses_in}
 pub use Rattle.model_teis.specs.network.Rows.{answer_request, ask_once, asks_for, assign, assign_new, assigns_for, count, counted as tei_counted, doubled, expire_check, expire_period, is_among, is_checked, is_unanswered, join_at, remembered_in, removed, request as tei_request, request_anew, request_of, respond, respond_among, responses, serve, take_off, verify, verify_beside, verify_later}
 pub use Rattle.model_teis.specs.Table.{IsAt, IsSoundTable, Places, is_on, place_of}
 pub use Rattle.model_teis.specs.network.Sound.{IsSound as TeiIsSound, IsSoundCheck}
@@ -134,7 +134,7 @@ pub use Rattle.laws_link.proofs.Delivered.{delivered-was-heard}
 pub use Rattle.laws_link.proofs.Follows.{event-follows}
 pub use Rattle.laws_link.proofs.InOrder.{given-in-order}
 pub use Rattle.laws_link.proofs.Keeping.{event-unit}
-pub use Rattle.laws_link.proofs.KnownRows.{layer_3_knows}
+pub use Rattle.laws_link.proofs.KnownRows.{is_decided, layer_3_knows}
 pub use Rattle.laws_link.proofs.MayGo.{goes-not, none-goes}
 pub use Rattle.model_link.proofs.Obeying.{leaves-others}
 pub use Rattle.laws_link.proofs.OfTwo.Needing.{is-timed, timely-after, timely-fresh}

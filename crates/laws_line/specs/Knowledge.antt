@@ -22,7 +22,7 @@ abbrev pub taken_for_up : Service → ℕ → Bool → Answer → Bool
 taken_for_up service tei up answer = fold (up_by_note service tei) up (notes_of answer)
 
 -- It is up where its TEI is on the line, and the link is: in states 7 and 8; in state 6 until its release is confirmed; and
--- in state 5 where it establishes itself anew (clause 5.7.1).
+-- in state 5 where it establishes itself anew (clause 5.7.1). If layer 3 asks in state 5 (annex B), it is not what notes tell there.
 abbrev pub link_is_up : Service → Line → ℕ → Bool
 link_is_up service l place = is_up (link_in l service place)
 

@@ -1,5 +1,6 @@
 -- What an event leaves of a link, row by row of the tables.
-use Rattle.laws_link.proofs.Vocabulary.{◌≡◌, ℕ, ◌+◌, Bool, cond, ◌||◌, List, [], ◌∷◌, ◌++◌, length, drop, Option, nat_lt, Control, Note, Parts, State, LinkTimer, ControlFrame, Terms, Link, Course, as_heard, state_after, numbers_begin, answers, commands, peer_busy_left, own_busy_left, flag_left, rejecting_heard, takes_contents, unless_put, owed_in, owed_behind, asked_left, repeats_left, told_with}
+use Rattle.laws_link.proofs.Vocabulary.{◌≡◌, ℕ, ◌+◌, Bool, false, cond, ◌||◌, List, [], ◌∷◌, ◌++◌, length, drop, Option, nat_lt, Control, Note, Parts, State, LinkTimer, ControlFrame, Terms, Link, Course, as_heard, state_after, numbers_begin, answers, commands, peer_busy_left, own_busy_left, flag_left, rejecting_heard, takes_contents, unless_put, owed_in, owed_behind, asked_left, owed_left}
+use Rattle.laws_link.proofs.Vocabulary.{comes_to, repeats_left, told_with}
 use Rattle.laws_link.proofs.Vocabulary.{Event, cleared, frame, offer, received, course}
 use Rattle.lapd_frame.specs.declared.readings.Reading.{Reading}
 
@@ -14,6 +15,7 @@ pub record Left : Type 0 where
   pub rejecting : Bool
   pub pending : Bool
   pub asked : Bool
+  pub owed : Bool
   pub repeats : ℕ
   pub zeroed : Bool
 
@@ -28,6 +30,7 @@ left c = record {
   rejecting = c.link.rejecting;
   pending = c.link.pending;
   asked = c.link.asked;
+  owed = c.link.owed;
   repeats = c.link.repeats;
   zeroed = c.zeroed;
 }
@@ -49,7 +52,8 @@ queued_by t other l fs = queued t.control l.waiting fs
 
 abbrev pub owed_by : Event → Link → State → List ControlFrame → Bool → Bool
 owed_by offer l to fs takes = owed_behind l.waiting l.pending
-owed_by other l to fs takes = flag_left other l to (owed_in to (unless_put fs (takes || l.pending))) l.pending
+owed_by other l to fs takes =
+    cond (comes_to 6 l.state to) false (flag_left other l to (owed_in to (unless_put fs (takes || l.pending))) l.pending)
 
 -- What the definitions say that it leaves, by the answers to it and what it says of REJ and of an I-frame that is taken.
 abbrev pub due_by : Terms → Event → Link → List ControlFrame → Bool → Bool → State → Left
@@ -62,7 +66,8 @@ due_by t e l answers rejecting takes to = record {
   own_busy = own_busy_left e l to;
   rejecting = flag_left e l to rejecting l.rejecting;
   pending = owed_by e l to (answers ++ commands e l to) takes;
-  asked = asked_left e l to;
+  asked = asked_left t e l to;
+  owed = owed_left t e l to;
   repeats = repeats_left t e l to;
   zeroed = numbers_begin e l.state to;
 }
@@ -73,11 +78,14 @@ due t e l to = due_by t e l (answers e l) (rejecting_heard e l) (takes_contents 
 abbrev pub at : State → Link → Link
 at here l = record l { state = here }
 
-abbrev pub at-busy : State → Bool → Bool → Link → Link
-at-busy here own rej l = record l { state = here; own_busy = own; rejecting = rej }
+abbrev pub at-busy : State → Bool → Bool → Bool → Link → Link
+at-busy here owed own rej l = record l { state = here; owed = owed; own_busy = own; rejecting = rej }
 
-abbrev pub at-running : State → Option LinkTimer → Link → Link
-at-running here o l = record l { state = here; running = o }
+abbrev pub at-owed : State → Bool → Link → Link
+at-owed here owed l = record l { state = here; owed = owed }
+
+abbrev pub at-running : State → Bool → Option LinkTimer → Link → Link
+at-running here owed o l = record l { state = here; owed = owed; running = o }
 
 abbrev pub at-waiting : State → List ControlFrame → Bool → Link → Link
 at-waiting here ws owed l = record l { state = here; waiting = ws; pending = owed }

@@ -1,5 +1,6 @@
 -- What comes of a request that is granted.
-use Rattle.laws_link.proofs.Vocabulary.{◌≡◌, ℕ, ◌+◌, ◌≤◌, Bool, true, false, cond, List, [], ◌∷◌, ◌++◌, length, take, drop, length-take-le, Option, None, Some, arith, ◌⊎◌, nat_lt, cases_lt, lt-ltb, le-ltb, drop_all, drop-append-le, Refusal, WrongState, State, ControlFrame, Terms, Link, IsSound, Course, begun, ◌then◌, IsReleasedIn, TakesEffect, ClearBusy, Release, Request, requested, course}
+use Rattle.laws_link.proofs.Vocabulary.{◌≡◌, ℕ, ◌+◌, ◌≤◌, Bool, true, false, not, cond, List, [], ◌∷◌, ◌++◌, length, take, drop, length-take-le, Option, None, Some, arith, ◌⊎◌, nat_lt, cases_lt, lt-ltb, le-ltb, drop_all, drop-append-le, Refusal, WrongState, State, ControlFrame, Terms, Link, IsSound, Course, begun, ◌then◌, IsAskedIn, IsReleasedIn, TakesEffect, ClearBusy, Establish, Release}
+use Rattle.laws_link.proofs.Vocabulary.{Request, requested, course}
 use Rattle.laws_link.proofs.Vocabulary.{own_busy_is, report_receiver_status}
 use Rattle.model_link.specs.Requests
 
@@ -15,15 +16,19 @@ module _ (t : Terms) (l : Link) where
   emptied : l.a ≤ length l.contents → drop l.a (take l.a l.contents) ≡ []
   emptied most = drop_all l.a (take l.a l.contents) (omega (arith, length-take-le l.a l.contents most))
 
-  released : (here : State) → Requests.serves here Release ≡ true → l.a ≤ length l.contents
+  established : (here : State) → Requests.serves t.reading here l.owed Establish ≡ true → l.a ≤ length l.contents
+      → let c = Requests.establish_in here t (begun l) in (l.state ≡ here → IsAskedIn here t l c.link c.notes c.lost)
+  established here s most = grind (arith, put, emptied)
+
+  released : (here : State) → Requests.serves t.reading here l.owed Release ≡ true → l.a ≤ length l.contents
       → let c = Requests.release_in here t (begun l) in (l.state ≡ here → IsReleasedIn here t l c.link c.notes c.lost)
   released here s most = grind (arith, put, emptied)
 
   ends-busy : (b : Bool) → l.own_busy ≡ b → Takes ClearBusy (cond b ((own_busy_is false then report_receiver_status t) (begun l)) (begun l))
   ends-busy b e = grind (arith, put)
 
-  granted : (request : Request) → Requests.serves l.state request ≡ true → l.a ≤ length l.contents → Takes request (Requests.granted t request (begun l))
-  granted request s most = grind (arith, put, released, drop-append-le, ends-busy)
+  granted : (request : Request) → Requests.serves t.reading l.state l.owed request ≡ true → l.a ≤ length l.contents → Takes request (Requests.granted t request (begun l))
+  granted request s most = grind (arith, put, established, released, drop-append-le, ends-busy)
 
   served : (b : Bool) (o : Option Refusal) → cond b o (Some WrongState) ≡ None → b ≡ true
   served b o e = grind arith

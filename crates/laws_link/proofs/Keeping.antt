@@ -1,7 +1,7 @@
 -- What each event makes of the contents of a link, of V(A) and of V(S).
-use Rattle.laws_link.proofs.Vocabulary.{◌≡◌, ℕ, ◌+◌, ◌≤◌, Bool, true, false, cond, List, [], ◌∷◌, length, take, drop, Option, Some, None, is_some, refl, ◌⊎◌, inl, inr, sym, subst, true≢false, arith, length-take-le, append-nil, drop-drop, add-zero, ⊎_elim, All, nat_lt, nat_le, option_map_or, drop_all, drop-append-le, All-head, Control, Ui, ErrorCode, Refusal, WrongState, State, TeiAssigned}
+use Rattle.laws_link.proofs.Vocabulary.{◌≡◌, ℕ, ◌+◌, ◌≤◌, Bool, true, false, cond, IsTrue, List, [], ◌∷◌, length, take, drop, Option, Some, None, is_some, refl, ◌⊎◌, inl, inr, sym, subst, true≢false, arith, length-take-le, append-nil, drop-drop, add-zero, ⊎_elim, All, nat_lt, nat_le, option_map_or, drop_all, drop-append-le, All-head, Control, Ui, ErrorCode, Refusal, WrongState, State, TeiAssigned}
 use Rattle.laws_link.proofs.Vocabulary.{LinkCounts, with_counted, expire_running}
-use Rattle.laws_link.proofs.Vocabulary.{AwaitingEstablishment, AwaitingRelease, Established, TimerRecovery, LinkTimer, T200, ControlFrame, Terms, Link, is_multiple_frame, IsSettledIn, IsSound, IsWaitingFrame, Course, begun, Step, ◌then◌, nothing, changed, Leads, nothing_leads, number_of, acknowledged_by, contents_asked, is_release, tells_loss, Share, share, left_by, with_share, unit_due}
+use Rattle.laws_link.proofs.Vocabulary.{AwaitingEstablishment, AwaitingRelease, Established, TimerRecovery, LinkTimer, T200, ControlFrame, Terms, Link, is_multiple_frame, IsSettledIn, IsSound, IsWaitingFrame, Course, begun, Step, ◌then◌, nothing, changed, Leads, nothing_leads, number_of, acknowledged_by, contents_asked, gives_up, tells_loss, Share, share, left_by, with_share, unit_due}
 use Rattle.laws_link.proofs.Vocabulary.{is_i_frame, i_frames, begin_anew, deliver_unit, long_unit_in_7_8, malformed_down, pending_is, start, unit_data, give_information, give_waiting, is_awaiting_acknowledgement, may_send_information, offer_among, send_acknowledgement, with_one_sent, course, expired_in, expired_step, frame_in, frame_step, given_of, is_running, malformed_in, told_of_clearing}
 use Rattle.laws_link.proofs.Vocabulary.{both_ways, ◌||◌, zero-add}
 use Rattle.model_link.specs.Events
@@ -9,7 +9,7 @@ use Rattle.model_link.specs.Requests
 use Rattle.laws_link.proofs.Queueing.{On, words}
 use Rattle.laws_link.proofs.Moves.{Goes, Empties, Restarts, Moves}
 use Rattle.laws_link.proofs.Delivered.{not-over}
-use Rattle.laws_link.proofs.QueueRows.{is_ui, count, Stay, Move, none-kept, still, frames_in_4, released_in_4, established_in_4, frames_in_5, t200_in_5, frames_in_6, t200_in_6, frames_in_7, timer_in_7, frames_in_8, t200_in_8, set_busy, clear_busy}
+use Rattle.laws_link.proofs.QueueRows.{is_ui, count, Stay, Move, none-kept, all-taken, still, frames_in_4, released_in_4, frames_in_5, t200_in_5, frames_in_6, t200_in_6, frames_in_7, timer_in_7, frames_in_8, t200_in_8, set_busy, clear_busy}
 
 -- What a share leads to: the history that it makes, and what of the contents that were kept it leaves.
 pub record Comes (share : Share) (all : List (List ℕ)) (a : ℕ) (all' : List (List ℕ)) (a' : ℕ) : Type 0 where
@@ -79,6 +79,9 @@ module _ (t : Terms) (l : Link) (h : IsSound t l) where
   settled : (here : State) → l.state ≡ here → IsSettledIn here l
   settled here e = subst (λ s. IsSettledIn s l) e h.settled
 
+  over : IsTrue l.owed → length l.contents ≡ l.a
+  over is = (h.owed is).queue
+
   -- An N(R) counts in states 7 and 8 alone.
   count-is : (here : State) → l.state ≡ here → (o : Option Rattle.lapd_seq.specs.declared.numbers.Seq.Seq) → is_multiple_frame here ≡ true → acknowledged_by o l ≡ count l.a l.s o
   count-is here e o m = grind arith
@@ -90,7 +93,7 @@ module _ (t : Terms) (l : Link) (h : IsSound t l) where
       → Moved (acknowledged_by (number_of t control octets) l) (frame_in here t b octets control (begun l))
   unfolding Moved
   by-state TeiAssigned e b octets control is = grind (arith, Moved, none-counts, frames_in_4, settled)
-  by-state AwaitingEstablishment e b octets control is = grind (arith, Moved, none-counts, frames_in_5, settled)
+  by-state AwaitingEstablishment e b octets control is = grind (arith, Moved, none-counts, frames_in_5, settled, over)
   by-state AwaitingRelease e b octets control is = grind (arith, none-counts, frames_in_6, settled)
   by-state Established e b octets control is = grind (arith, count-is, frames_in_7)
   by-state TimerRecovery e b octets control is =
@@ -131,26 +134,38 @@ module _ (t : Terms) (l : Link) (h : IsSound t l) where
   served : (b : Bool) (o : Option Refusal) → cond b o (Some WrongState) ≡ None → b ≡ true
   served b o e = grind arith
 
-  releases : (here : State) → l.state ≡ here → Requests.serves here Events.Release ≡ true
-      → Led (requested-share false [] true (Requests.release_in here t (begun l))) 0 (Requests.release_in here t (begun l))
+  abbrev Emptied : Course → Type 0
+  Emptied c = Led (requested-share false [] true c) 0 c
+
+  establishes : (here : State) → l.state ≡ here → Requests.serves t.reading here l.owed Events.Establish ≡ true → Emptied (Requests.establish_in here t (begun l))
+  establishes TeiAssigned e s =
+      let none = settled TeiAssigned e in
+      let kept : Comes (record { restarts = false; empties = true; accepted = []; acknowledged = 0 }) l.contents l.a l.contents l.a =
+      record { contents = all-taken t l h.ordered h.accepted none; acknowledged = refl; kept = drop_all l.a l.contents (omega (arith, none)) } in
+      record { comes = kept; follows = inl (sym (add-zero l.s)) }
+  establishes AwaitingEstablishment e s = record { comes = emptied l.contents [] l.a 0 few; follows = inr (refl, refl) }
+  establishes other e s = absurd (grind (arith, true≢false))
+
+  releases : (here : State) → l.state ≡ here → Requests.serves t.reading here l.owed Events.Release ≡ true → Emptied (Requests.release_in here t (begun l))
   unfolding Moved
   releases TeiAssigned e s = by-row 0 (Requests.release_in TeiAssigned t (begun l)) (released_in_4 t l h.ordered h.accepted (settled TeiAssigned e))
+  releases AwaitingEstablishment e s = record { comes = emptied l.contents [] l.a 0 few; follows = inr (refl, refl) }
   releases Established e s = record { comes = emptied l.contents [] l.a 0 few; follows = inr (refl, refl) }
   releases TimerRecovery e s = record { comes = emptied l.contents [] l.a 0 few; follows = inr (refl, refl) }
-  releases other e s = absurd (true≢false (sym s))
+  releases other e s = absurd (grind (arith, true≢false))
 
-  granted : (request : Events.Request) (o : Option Refusal) → cond (Requests.serves l.state request) o (Some WrongState) ≡ None
-      → Led (requested-share false (contents_asked request) (is_release request) (Requests.granted t request (begun l))) 0 (Requests.granted t request (begun l))
+  granted : (request : Events.Request) (o : Option Refusal) → cond (Requests.serves t.reading l.state l.owed request) o (Some WrongState) ≡ None
+      → Led (requested-share false (contents_asked request) (gives_up request) (Requests.granted t request (begun l))) 0 (Requests.granted t request (begun l))
   unfolding Moved
-  granted Events.Establish o e = by-row 0 (Requests.granted t Events.Establish (begun l)) (established_in_4 t l h.ordered h.accepted)
-  granted Events.Release o e = releases l.state refl (served (Requests.serves l.state Events.Release) o e)
+  granted Events.Establish o e = establishes l.state refl (served (Requests.serves t.reading l.state l.owed Events.Establish) o e)
+  granted Events.Release o e = releases l.state refl (served (Requests.serves t.reading l.state l.owed Events.Release) o e)
   granted (Events.Data octets) o e = grind (arith, add-zero, drop-append-le, drop-drop)
   granted Events.SetBusy o e = by-row 0 (Requests.granted t Events.SetBusy (begun l)) (set_busy t l h.ordered h.accepted)
   granted Events.ClearBusy o e = by-row 0 (Requests.granted t Events.ClearBusy (begun l)) (clear_busy t l h.ordered h.accepted)
 
   requested : (request : Events.Request) (full : Bool) (o : Option Refusal) → Requests.refusal t l full request ≡ o
       → let c = elim o as (λ o. Course) [ None ↦ Requests.granted t request (begun l) | Some _ ↦ begun l ] in
-      Led (requested-share (is_some o) (contents_asked request) (is_release request) c) 0 c
+      Led (requested-share (is_some o) (contents_asked request) (gives_up request) c) 0 c
   requested request full None e = granted request (Requests.refusal_for_room t l full request) e
   requested request full (Some w) e = by-row 0 (begun l) unmoved
 
@@ -238,17 +253,20 @@ module _ (t : Terms) (l : Link) (h : IsSound t l) where
   frame-gone b octets (Ui p) true e = ui-gone l.state b octets p
   frame-gone b octets other true e = absurd (true≢false (sym e))
 
-  release-gone : (here : State) → l.state ≡ here → Requests.serves here Events.Release ≡ true → Gone true (Requests.release_in here t (begun l))
+  establish-gone : (here : State) → l.state ≡ here → Requests.serves t.reading here l.owed Events.Establish ≡ true → Gone true (Requests.establish_in here t (begun l))
+  establish-gone other e s = grind (arith, none-kept, settled, zero-add, true≢false)
+
+  release-gone : (here : State) → l.state ≡ here → Requests.serves t.reading here l.owed Events.Release ≡ true → Gone true (Requests.release_in here t (begun l))
   release-gone other e s = grind (arith, none-kept, settled, zero-add, true≢false)
 
-  granted-gone : (request : Events.Request) (o : Option Refusal) → cond (Requests.serves l.state request) o (Some WrongState) ≡ None
-      → Gone (is_release request || tells_loss (Requests.granted t request (begun l)).notes) (Requests.granted t request (begun l))
+  granted-gone : (request : Events.Request) (o : Option Refusal) → cond (Requests.serves t.reading l.state l.owed request) o (Some WrongState) ≡ None
+      → Gone (gives_up request || tells_loss (Requests.granted t request (begun l)).notes) (Requests.granted t request (begun l))
   unfolding Moved
-  granted-gone h o e = grind (arith, gone-by, begun, established_in_4, release-gone, served, set_busy, clear_busy)
+  granted-gone h o e = grind (arith, gone-by, begun, establish-gone, release-gone, served, set_busy, clear_busy)
 
   requested-gone : (request : Events.Request) (full : Bool) (o : Option Refusal) → Requests.refusal t l full request ≡ o
       → let c = elim o as (λ o. Course) [ None ↦ Requests.granted t request (begun l) | Some _ ↦ begun l ] in
-      Gone (cond (is_some o) false (is_release request) || tells_loss c.notes) c
+      Gone (cond (is_some o) false (gives_up request) || tells_loss c.notes) c
   requested-gone request full h e = grind (arith, granted-gone)
 
   clears-gone : (here : State) → Gone true (begin_anew (told_of_clearing here t (begun l)))

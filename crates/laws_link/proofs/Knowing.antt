@@ -18,10 +18,6 @@ pub record In (here state : State) (asked up : Bool) : Type 0 where
 pub record Knows (state : State) (asked up : Bool) : Type 0 where
   pub known_is : up ≡ up_by state asked
 
--- known as up
-pub record IsKnownUp (up : Bool) : Type 0 where
-  pub is : up ≡ true
-
 -- one note more
 pub one-more : (up : Bool) (ns : List Note) (n : Note) → known up (ns ++ n ∷ []) ≡ seen (known up ns) n
 one-more up [] n = refl
@@ -41,9 +37,6 @@ module _ (up : Bool) where
 
   abbrev pub Ends : Course → Type 0
   Ends c = Knows c.link.state c.link.asked (known up c.notes)
-
-  abbrev pub Up : Course → Type 0
-  Up c = IsKnownUp (known up c.notes)
 
   pub enough : (here state : State) (asked k : Bool) → In here state asked k → Knows state asked k
   enough here state asked k h = record { known_is = rw h.state_is h.known_is }
@@ -85,13 +78,6 @@ module _ (up : Bool) where
   -- from state 4
   pub confirms_in_4 : (t : Terms) → Leads (At TeiAssigned) (release_confirm t) (At TeiAssigned)
   confirms_in_4 t = grind (arith, one-more)
-
-  -- from state 5
-  pub established_up : (t : Terms) → Leads (At AwaitingEstablishment) (depending_on is_asked (establish_confirm t) (depending_on has_outstanding (discard then establish_indication t) nothing)) Up
-  established_up t = grind (arith, tested_leads, one-more, depending_leads)
-
-  pub zero_enters : Leads Up (zero_numbers then start T203 then enter Established) Ends
-  zero_enters = record { leads = λ c h. record { known_is = h.is } }
 
 pub ruleset words = (leaves, keeping_then, nothing_leads, depending_leads, bit_leads, read_leads, note_knows, deliver_knows, deliver_unit_knows, confirms_in_4, indication_knows, refl)
 

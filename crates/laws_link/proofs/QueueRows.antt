@@ -37,7 +37,7 @@ module _ (t : Terms) (l : Link) (ordered : l.a ≤ l.s) (most : l.s ≤ length l
   none-left : length l.contents ≡ l.a → drop l.s l.contents ≡ []
   none-left none = drop_all l.s l.contents (omega (arith, ordered, none))
 
-  all-taken : length l.contents ≡ l.a → l.contents ≡ take l.a l.contents
+  pub all-taken : length l.contents ≡ l.a → l.contents ≡ take l.a l.contents
   all-taken none = sym (take_all l.a l.contents (omega (arith, none)))
 
   pub none-kept : length l.contents ≡ l.a → 0 ≡ length (drop l.a l.contents)
@@ -53,12 +53,9 @@ module _ (t : Terms) (l : Link) (ordered : l.a ≤ l.s) (most : l.s ≤ length l
   pub released_in_4 : length l.contents ≡ l.a → On (Move 0) (release_in_4 t (begun l))
   released_in_4 none = grind (arith, all-taken, none-kept)
 
-  pub established_in_4 : On (Move 0) (establish_in_4 t (begun l))
-  established_in_4 = still (establish_in_4 t) (search words)
-
   -- State 5.
-  pub frames_in_5 : (IsTrue l.asked → length l.contents ≡ l.a) → (octets : List ℕ) (control : Control) → is_ui control ≡ false → On (Move 0) (AwaitingEstablishment.frame_in_5 t octets control (begun l))
-  frames_in_5 none octets control is = grind (arith, none-left, none-kept, drop_all, begins, length-take-le, same-place, still, words)
+  pub frames_in_5 : (IsTrue l.asked → length l.contents ≡ l.a) → (IsTrue l.owed → length l.contents ≡ l.a) → (octets : List ℕ) (control : Control) → is_ui control ≡ false → On (Move 0) (AwaitingEstablishment.frame_in_5 t octets control (begun l))
+  frames_in_5 none over octets control is = grind (arith, none-left, none-kept, over, drop_all, begins, length-take-le, same-place, still, words)
 
   pub t200_in_5 : On (Move 0) (AwaitingEstablishment.t200_in_5 t (begun l))
   t200_in_5 = grind (arith, On, words, both_ways, nat_lt, still)

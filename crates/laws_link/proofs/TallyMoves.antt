@@ -1,7 +1,8 @@
 -- How many I-frames go again, after each event.
 use Rattle.laws_link.proofs.Vocabulary.{◌≡◌, ℕ, ◌+◌, ◌-◌, ◌≤◌, Bool, true, false, cond, IsTrue, List, [], ◌∷◌, Option, None, Some, refl, sym, true≢false, arith, both_ways, nat_lt, Seq, named, named-within, Control, Refusal, ErrorCode, State, TeiAssigned, AwaitingEstablishment}
 use Rattle.laws_link.proofs.Vocabulary.{AwaitingRelease, Established, TimerRecovery, ControlFrame, Terms, Link, LinkTimer, LinkCounts, is_multiple_frame, Request, offer, Course, Step, begun, with_expiry, with_counted, after, expired_in, frame_in, frame_in_7, frame_in_8}
-use Rattle.laws_link.proofs.Vocabulary.{◌then◌, with_reject_received, answered, peer_busy_is, unsolicited, solicited, length, is_final, error, re_establish, malformed_in, granted, release_in, offer_among, by_number, acknowledge, contents_in_7_8, information_in_7_8, acknowledged_in_7, acknowledged_by_information_in_7, acknowledged_by_rej_in_7, acknowledged_by_rnr_in_7, acknowledged_in_8}
+use Rattle.laws_link.proofs.Vocabulary.{◌then◌, with_reject_received, answered, peer_busy_is, unsolicited, solicited, length, is_final, error, re_establish, malformed_in, establish_in, granted, release_in, offer_among, by_number, acknowledge, contents_in_7_8, information_in_7_8, acknowledged_in_7, acknowledged_by_information_in_7, acknowledged_by_rej_in_7, acknowledged_by_rnr_in_7}
+use Rattle.laws_link.proofs.Vocabulary.{acknowledged_in_8}
 use Rattle.laws_link.proofs.Vocabulary.{subst, frame_in_4, frame_in_5, frame_in_6, All, All-head, option_map_or, give_waiting, may_send_information, is_awaiting_acknowledgement, with_one_sent, start, send_acknowledgement, given_of}
 use Rattle.model_link.specs.Sound.{is_information}
 use Rattle.laws_link.specs.Counting.{establishes_in, sends_information}
@@ -88,50 +89,50 @@ module _ (t : Terms) (l : Link) (low : l.a ≤ l.s) (near : l.s + l.again ≤ l.
   counted : Before (begun (with_counted with_reject_received l))
   counted = record { a = refl; s = refl; again = refl }
 
-  frames-7 : (b : Bool) (octets : List ℕ) (control : Control) → establishes_in Established control ≡ false → Goes (frame_in_7 t b octets control (begun l))
-  frames-7 b octets control e = grind (arith, information, acknowledged_by_information_in_7, information-7, numbered, acknowledged_in_7, in-7, unsolicited, heard-7, first, rnr-7, rej-7, counted)
+  frames-7 : (owed b : Bool) (octets : List ℕ) (control : Control) → establishes_in Established owed control ≡ false → Goes (frame_in_7 t b octets control (begun l))
+  frames-7 owed b octets control e = grind (arith, information, acknowledged_by_information_in_7, information-7, numbered, acknowledged_in_7, in-7, unsolicited, heard-7, first, rnr-7, rej-7, counted)
 
-  frames-8 : (b : Bool) (octets : List ℕ) (control : Control) → establishes_in TimerRecovery control ≡ false → Goes (frame_in_8 t b octets control (begun l))
-  frames-8 b octets control e = grind (arith, information, acknowledge, acked, numbered, acknowledged_in_8, is_final, in-8, solicited, begun, heard-8, first, counted)
+  frames-8 : (owed b : Bool) (octets : List ℕ) (control : Control) → establishes_in TimerRecovery owed control ≡ false → Goes (frame_in_8 t b octets control (begun l))
+  frames-8 owed b octets control e = grind (arith, information, acknowledge, acked, numbered, acknowledged_in_8, is_final, in-8, solicited, begun, heard-8, first, counted)
 
 -- Each event but an offer.
 module _ (t : Terms) (l : Link) where
   abbrev Leaves : Course → Type 0
   Leaves c = Turns l (is_multiple_frame l.state) false c.link
 
-  in-4 : l.state ≡ TeiAssigned → (octets : List ℕ) (control : Control) → Turns l false (establishes_in TeiAssigned control) (frame_in_4 t octets control (begun l)).link
+  in-4 : l.state ≡ TeiAssigned → (octets : List ℕ) (control : Control) → Turns l false (establishes_in TeiAssigned l.owed control) (frame_in_4 t octets control (begun l)).link
   in-4 e octets control = grind arith
 
-  in-5 : l.state ≡ AwaitingEstablishment → (octets : List ℕ) (control : Control) → Turns l false (establishes_in AwaitingEstablishment control) (frame_in_5 t octets control (begun l)).link
+  in-5 : l.state ≡ AwaitingEstablishment → (octets : List ℕ) (control : Control) → Turns l false (establishes_in AwaitingEstablishment l.owed control) (frame_in_5 t octets control (begun l)).link
   in-5 e octets control = grind arith
 
-  in-6 : l.state ≡ AwaitingRelease → (octets : List ℕ) (control : Control) → Turns l false (establishes_in AwaitingRelease control) (frame_in_6 t octets control (begun l)).link
+  in-6 : l.state ≡ AwaitingRelease → (octets : List ℕ) (control : Control) → Turns l false (establishes_in AwaitingRelease l.owed control) (frame_in_6 t octets control (begun l)).link
   in-6 e octets control = grind arith
 
-  anew-7 : (b : Bool) (octets : List ℕ) (control : Control) → establishes_in Established control ≡ true
+  anew-7 : (owed b : Bool) (octets : List ℕ) (control : Control) → establishes_in Established owed control ≡ true
       → ((frame_in_7 t b octets control (begun l)).link.s ≡ 0) × ((frame_in_7 t b octets control (begun l)).link.again ≡ 0)
-  anew-7 b octets control e = grind arith
+  anew-7 owed b octets control e = grind arith
 
-  anew-8 : (b : Bool) (octets : List ℕ) (control : Control) → establishes_in TimerRecovery control ≡ true
+  anew-8 : (owed b : Bool) (octets : List ℕ) (control : Control) → establishes_in TimerRecovery owed control ≡ true
       → ((frame_in_8 t b octets control (begun l)).link.s ≡ 0) × ((frame_in_8 t b octets control (begun l)).link.again ≡ 0)
-  anew-8 b octets control e = grind arith
+  anew-8 owed b octets control e = grind arith
 
   module _ (low : l.a ≤ l.s) (near : IsTrue (is_multiple_frame l.state) → l.s + l.again ≤ l.a + 127) where
     near-in : (here : State) → l.state ≡ here → IsTrue (is_multiple_frame here) → l.s + l.again ≤ l.a + 127
     near-in here e up = near (subst (λ s. IsTrue (is_multiple_frame s)) (sym e) up)
 
     pub frame-turns : (here : State) → l.state ≡ here → (b : Bool) (octets : List ℕ) (control : Control)
-        → Turns l (is_multiple_frame here) (establishes_in here control) (frame_in here t b octets control (begun l)).link
+        → Turns l (is_multiple_frame here) (establishes_in here l.owed control) (frame_in here t b octets control (begun l)).link
     frame-turns TeiAssigned e b octets control = in-4 e octets control
     frame-turns AwaitingEstablishment e b octets control = in-5 e octets control
     frame-turns AwaitingRelease e b octets control = in-6 e octets control
     frame-turns Established e b octets control = record {
-      begins = λ is. anew-7 b octets control is;
-      goes_on = λ is up. let x = frames-7 t l low (near-in Established e refl) b octets control is up in (refl, x.a, x.s);
+      begins = λ is. anew-7 l.owed b octets control is;
+      goes_on = λ is up. let x = frames-7 t l low (near-in Established e refl) l.owed b octets control is up in (refl, x.a, x.s);
     }
     frame-turns TimerRecovery e b octets control = record {
-      begins = λ is. anew-8 b octets control is;
-      goes_on = λ is up. let x = frames-8 t l low (near-in TimerRecovery e refl) b octets control is up in (refl, x.a, x.s);
+      begins = λ is. anew-8 l.owed b octets control is;
+      goes_on = λ is up. let x = frames-8 t l low (near-in TimerRecovery e refl) l.owed b octets control is up in (refl, x.a, x.s);
     }
 
   pub malformed : (here : State) → l.state ≡ here → (e : ErrorCode) → Leaves (malformed_in here t e (begun l))
@@ -147,11 +148,14 @@ module _ (t : Terms) (l : Link) where
   expiries timer true = expired-turns (with_expiry timer) l.state refl timer
   expiries timer false = stays
 
+  opens : (here : State) → l.state ≡ here → Leaves (establish_in here t (begun l))
+  opens here is = grind (arith, both_ways)
+
   releases : (here : State) → l.state ≡ here → Leaves (release_in here t (begun l))
   releases here is = grind (arith, both_ways)
 
   grants : (request : Request) → Leaves (granted t request (begun l))
-  grants request = grind (arith, both_ways, releases)
+  grants request = grind (arith, both_ways, opens, releases)
 
   pub asked : (request : Request) (o : Option Refusal) → Leaves (elim o [ None ↦ granted t request (begun l) | Some _ ↦ begun l ])
   asked request None = grants request

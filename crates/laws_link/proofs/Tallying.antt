@@ -1,6 +1,6 @@
 -- What each event makes of the counts of a link.
 use Rattle.laws_link.proofs.Vocabulary.{◌≡◌, ℕ, Bool, true, false, cond, ◌&&◌, List, [], ◌∷◌, Option, None, Some, refl, arith, both_ways, nat_lt, Refusal, State, ControlFrame, Terms, Link, LinkTimer, LinkCounts}
-use Rattle.laws_link.proofs.Vocabulary.{Request, Event, received, expired, requested, offer, frame, Course, begun, with_expiry, with_counted, after, expired_in, granted, release_in, refusal, offer_among, is_running, given_of}
+use Rattle.laws_link.proofs.Vocabulary.{Request, Event, received, expired, requested, offer, frame, Course, begun, with_expiry, with_counted, after, expired_in, establish_in, granted, release_in, refusal, offer_among, is_running, given_of}
 use Rattle.laws_link.proofs.Vocabulary.{start, send_acknowledgement, All, All-head, option_map_or, give_waiting, may_send_information, is_awaiting_acknowledgement, with_one_sent, with_information_sent}
 use Rattle.model_link.specs.Counts.{one_more}
 use Rattle.model_link.specs.Sound.{is_information}
@@ -27,11 +27,14 @@ module _ (t : Terms) (l : Link) where
   expired-counts : (here : State) (timer : LinkTimer) → Still (expired_in here timer t (begun l))
   expired-counts here timer = grind (arith, both_ways)
 
+  opens : (here : State) → Still (establish_in here t (begun l))
+  opens here = grind (arith, both_ways)
+
   releases : (here : State) → Still (release_in here t (begun l))
   releases here = grind (arith, both_ways)
 
   grants : (request : Request) → Still (granted t request (begun l))
-  grants request = grind (arith, both_ways, releases)
+  grants request = grind (arith, both_ways, opens, releases)
 
   asked : (request : Request) (o : Option Refusal) → Still (elim o [ None ↦ granted t request (begun l) | Some _ ↦ begun l ])
   asked request None = grants request

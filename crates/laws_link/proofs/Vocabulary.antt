@@ -36,11 +36,11 @@ pub use Rattle.model_link.proofs.Rows.{event_row, frame_row}
 pub use Rattle.model_link.proofs.SoundEvents.{sound-after, sound-all, sound-fresh}
 pub use Rattle.model_link.proofs.SoundRows.{named-within}
 pub use Rattle.model_link.proofs.TellRows.{event-tells}
-pub use Rattle.model_link.specs.AwaitingEstablishment.{frame_in_5}
+pub use Rattle.model_link.specs.AwaitingEstablishment.{accepted_in_5, carry_out, establish_in_5, frame_in_5, release_in_5, tell_failure}
 pub use Rattle.model_link.specs.AwaitingRelease.{frame_in_6}
 pub use Rattle.model_link.specs.Deliveries.{Arrived, Establishes, IsEstablished, MayEstablish, eligible_of, information_in, information_of, restarts}
 pub use Rattle.model_link.specs.Events.{ClearBusy, Data, Establish, Event, Release, Request, SetBusy, cleared, expired, frame, offer, overlong, received, requested, undefined, wrong_size}
-pub use Rattle.model_link.specs.Link.{Link, address_at, frame_of, fresh, has_outstanding, is_asked, is_multiple_frame, is_peer_busy, may_repeat}
+pub use Rattle.model_link.specs.Link.{Link, address_at, frame_of, fresh, has_outstanding, is_asked, is_multiple_frame, is_owed, is_peer_busy, may_repeat}
 pub use Rattle.model_link.specs.Machine.{after, course, expire_running, expired_in, expired_step, frame_in, frame_step, given, given_of, is_running, malformed_in, told, told_of_clearing}
 unfoldable pub use Rattle.model_link.specs.Machine.{after_all}
 pub use Rattle.model_link.specs.Notes.{is_data, is_unit}
@@ -64,11 +64,11 @@ pub use Rattle.model_link.specs.declared.timers.LinkTimer.{LinkTimer}
 pub use Rattle.model_link.specs.declared.timers.LinkTimer.TheVariants.{T200, T203}
 pub use Rattle.model_link.specs.Established.{acknowledged_by_information_in_7, acknowledged_by_rej_in_7, acknowledged_by_rnr_in_7, acknowledged_in_7, frame_in_7, unsolicited}
 pub use Rattle.model_link.specs.MultipleFrame.{answered, clear_busy_in_7_8, contents_in_7_8, failed, information_in_7_8, is_final, long_unit_in_7_8, set_busy_in_7_8, supervisory}
-pub use Rattle.model_link.specs.Requests.{granted, refusal, release_in}
+pub use Rattle.model_link.specs.Requests.{establish_in, granted, refusal, release_in}
 pub use Rattle.model_link.specs.TimerRecovery.{acknowledged_in_8, frame_in_8, recovered, solicited}
-pub use Rattle.laws_link.specs.Accepted.{acknowledged_by, beyond, contents_asked, is_loss, is_release, number_of, tells_loss}
-pub use Rattle.laws_link.specs.Effects.{IsReleasedIn, TakesEffect}
-pub use Rattle.laws_link.specs.Flags.{asked_left, flag_left, owed_behind, owed_in, own_busy_left, peer_busy_left, rejecting_heard, repeats_left, takes_contents, unless_put}
+pub use Rattle.laws_link.specs.Accepted.{acknowledged_by, beyond, contents_asked, gives_up, is_loss, number_of, tells_loss}
+pub use Rattle.laws_link.specs.Effects.{IsAskedIn, IsReleasedIn, TakesEffect}
+pub use Rattle.laws_link.specs.Flags.{asked_left, flag_left, owed_behind, owed_in, owed_left, own_busy_left, peer_busy_left, rejecting_heard, repeats_left, takes_contents, unless_put}
 pub use Rattle.laws_link.specs.Following.{Follows}
 pub use Rattle.laws_link.specs.Heard.{IsNotedOnce, contents_heard, data_due, unit_due, unit_heard, within}
 pub use Rattle.laws_link.specs.History.{IsKept, Share, left_by, share, with_share}
@@ -77,7 +77,7 @@ pub use Rattle.laws_link.specs.Known.{is_up, is_up_in, known, seen}
 pub use Rattle.laws_link.specs.Offered.{IsOffered, i_frames, is_i_frame}
 pub use Rattle.laws_link.specs.Samples.{sabme, up, usual_terms}
 pub use Rattle.laws_link.specs.Sending.{MayGo}
-pub use Rattle.laws_link.specs.States.{as_heard, numbers_begin, state_after}
+pub use Rattle.laws_link.specs.States.{as_heard, comes_to, numbers_begin, state_after}
 pub use Rattle.laws_link.specs.Telling.{told_with}
 pub use Rattle.model_link.specs.Timed.{IsTimed, IsTimedIn}
 pub use Rattle.laws_link.specs.Waiting.{answers, commands, put, waiting_left}

@@ -11,7 +11,7 @@ use Rattle.lapd_frame.specs.declared.notes.Note.{Note}
 use Rattle.lapd_frame.specs.declared.notes.Note.TheVariants as notes
 use Rattle.model_link.specs.declared.terms.Terms.{Terms}
 use Rattle.model_link.specs.Link.{Link, is_multiple_frame}
-use Rattle.model_link.specs.Events.{Received, frame, Request, Release, Data, Event, received, requested, cleared}
+use Rattle.model_link.specs.Events.{Received, frame, Request, Establish, Release, Data, Event, received, requested, cleared}
 use Rattle.model_link.specs.Requests.{refusal}
 use Rattle.model_link.specs.Machine.{told}
 
@@ -50,15 +50,17 @@ abbrev pub acknowledged : Terms → Event → Link → ℕ
 acknowledged t (received r) l = acknowledged_by (number_received t r) l
 acknowledged t other l = 0
 
--- All contents that are kept go where layer 3 asked for it by a release that is not refused, where the TEI leaves the
--- line, and where layer 3 is told so: by an indication of an establishment, or by an indication or a confirm of a
--- release. These three notes are told of no other event, so that they always say that nothing is kept.
-abbrev pub is_release : Request → Bool
-is_release Release = true
-is_release other = false
+-- All contents that are kept go where layer 3 asked for it by an establishment or a release that is not refused (in state 4
+-- none is kept), where the TEI leaves the line, and where layer 3 is told so: by an indication of an establishment, or by an
+-- indication or a confirm of a release. These three notes are told of no other event, so that they always say that nothing is
+-- kept.
+abbrev pub gives_up : Request → Bool
+gives_up Establish = true
+gives_up Release = true
+gives_up other = false
 
 abbrev pub ends : Terms → Event → Link → Bool
-ends t (requested request pool_is_full) l = if is_some (refusal t l pool_is_full request) then false else is_release request
+ends t (requested request pool_is_full) l = if is_some (refusal t l pool_is_full request) then false else gives_up request
 ends t cleared l = true
 ends t other l = false
 

@@ -1,5 +1,5 @@
 -- What the counts of a link are to say, counted from its events (profile).
-use Rattle.std.specs.Prelude.{ℕ, ◌+◌, ◌==◌, min, Bool, true, false, ◌&&◌, List, [], ◌∷◌, if◌then◌else◌}
+use Rattle.std.specs.Prelude.{ℕ, ◌+◌, ◌==◌, min, Bool, true, false, not, ◌&&◌, List, [], ◌∷◌, if◌then◌else◌}
 use Rattle.std.specs.List.{list_any}
 use Rattle.std.specs.Option.{option_map_or}
 use Rattle.lapd_frame.specs.declared.controls.Control.{Control}
@@ -19,13 +19,14 @@ abbrev pub is_rej : Control → Bool
 is_rej (Reject nr pf) = true
 is_rej other = false
 
--- A frame that establishes the link in this state: SABME, and in state 5 the UA that answers one (clauses 5.5.1.2 and 5.7).
-abbrev pub establishes_in : State → Control → Bool
-establishes_in TeiAssigned (Sabme p) = true
-establishes_in AwaitingEstablishment (Ua true) = true
-establishes_in Established (Sabme p) = true
-establishes_in TimerRecovery (Sabme p) = true
-establishes_in here other = false
+-- A frame that establishes the link in this state: SABME, and in state 5 the UA that answers one (clauses 5.5.1.2 and 5.7),
+-- unless a release is owed (annex B, which the bit says).
+abbrev pub establishes_in : State → Bool → Control → Bool
+establishes_in TeiAssigned owed (Sabme p) = true
+establishes_in AwaitingEstablishment owed (Ua true) = not owed
+establishes_in Established owed (Sabme p) = true
+establishes_in TimerRecovery owed (Sabme p) = true
+establishes_in here owed other = false
 
 -- An event is the expiry of T200, which runs; a REJ frame that is received in state 7 or 8; an establishment.
 abbrev pub is_t200 : Event → Link → Bool
@@ -37,7 +38,7 @@ receives_rej (received (frame f)) l = is_rej f.control && is_multiple_frame l.st
 receives_rej other l = false
 
 abbrev pub establishes : Event → Link → Bool
-establishes (received (frame f)) l = establishes_in l.state f.control
+establishes (received (frame f)) l = establishes_in l.state l.owed f.control
 establishes other l = false
 
 -- A REJ frame is sent; an I-frame is sent, whose number is V(S).

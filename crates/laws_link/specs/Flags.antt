@@ -1,5 +1,6 @@
 -- What an event leaves of a link's flags, and of RC, by the state that it leads to.
-use Rattle.std.specs.Prelude.{ℕ, ◌+◌, Bool, true, false, not, ◌&&◌, ◌||◌, min, List, [], ◌∷◌, if◌then◌else◌}
+use Rattle.std.specs.Prelude.{ℕ, ◌+◌, ◌==◌, Bool, true, false, not, ◌&&◌, ◌||◌, min, List, [], ◌∷◌, Option, None, Some, unwrap_or, if◌then◌else◌}
+use Rattle.std.specs.Option.{option_map_or}
 use Rattle.lapd_frame.specs.declared.controls.Control.{Control}
 use Rattle.lapd_frame.specs.declared.controls.Control.TheVariants.{Information, ReceiveReady, ReceiveNotReady, Reject}
 use Rattle.lapd_frame.specs.Readings.{by_reading}
@@ -7,8 +8,8 @@ use Rattle.model_link.specs.declared.states.State.{State}
 use Rattle.model_link.specs.declared.states.State.TheVariants.{TeiAssigned, AwaitingEstablishment, AwaitingRelease, Established, TimerRecovery}
 use Rattle.model_link.specs.declared.frames.ControlFrame.{ControlFrame}
 use Rattle.model_link.specs.declared.terms.Terms.{Terms}
-use Rattle.model_link.specs.Link.{Link, is_multiple_frame, most_repeats}
-use Rattle.model_link.specs.Events.{frame, Establish, SetBusy, ClearBusy, Event, received, requested, offer}
+use Rattle.model_link.specs.Link.{Link, is_multiple_frame, most_repeats, state_number}
+use Rattle.model_link.specs.Events.{frame, Establish, Release, SetBusy, ClearBusy, Event, received, requested, offer}
 use Rattle.laws_link.specs.States.{moves, comes_to, is_clearing, is_anew}
 use Rattle.laws_link.specs.Waiting.{has_next_number, is_taken, is_time, put}
 
@@ -78,7 +79,8 @@ owed_behind (f ∷ fs) owed = owed
 
 abbrev pub pending_left : Event → Link → State → Bool
 pending_left offer l to = owed_behind l.waiting l.pending
-pending_left other l to = flag_left other l to (owed_in to (unless_put (put other l to) (takes_contents other l || l.pending))) l.pending
+pending_left other l to =
+    if comes_to 6 l.state to then false else flag_left other l to (owed_in to (unless_put (put other l to) (takes_contents other l || l.pending))) l.pending
 
 -- The establishment that is awaited was asked for, in state 4: by layer 3 (clause 5.5.1.1), or by annex B by DM with F=0
 -- (clause 5.5.4). Or this side began it, in states 7 and 8 (clause 5.7.2).
@@ -87,8 +89,27 @@ asks_establishment (requested Establish pool_is_full) here = true
 asks_establishment (received r) here = not (is_multiple_frame here)
 asks_establishment other here = false
 
-abbrev pub asked_left : Event → Link → State → Bool
-asked_left e l to = if is_clearing e then false else if comes_to 5 l.state to then asks_establishment e l.state else l.asked
+-- By annex B layer 3 may change in state 5 what it asks for: the establishment, or the release, which is then owed until the
+-- link leaves the state. A release that is owed is not asked for again.
+abbrev pub asks_in_5 : Event → Bool → Option Bool
+asks_in_5 (requested Establish pool_is_full) owed = Some true
+asks_in_5 (requested Release pool_is_full) owed = if owed then None else Some false
+asks_in_5 other owed = None
+
+abbrev pub decided : Terms → Event → Link → Option Bool
+decided t e l = if state_number l.state == 5 then by_reading t.reading None (asks_in_5 e l.owed) else None
+
+abbrev pub asked_left : Terms → Event → Link → State → Bool
+asked_left t e l to =
+    if is_clearing e then false
+    else if comes_to 5 l.state to then asks_establishment e l.state
+    else unwrap_or (decided t e l) l.asked
+
+abbrev pub owed_left : Terms → Event → Link → State → Bool
+owed_left t e l to =
+    if is_clearing e then false
+    else if (state_number l.state == 5) && moves l.state to then false
+    else option_map_or not (decided t e l) l.owed
 
 -- RC counts how often T200 has expired for the command that a state awaits the answer to (clauses 5.5.1.3, 5.5.3.3 and
 -- 5.6.7). By annex B the T200 that leaves state 7 counts too, if N200 is not 0 (clause 5.6.7).

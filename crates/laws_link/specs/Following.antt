@@ -8,7 +8,7 @@ use Rattle.model_link.specs.Link.{Link}
 use Rattle.model_link.specs.Events.{Event}
 use Rattle.laws_link.specs.States.{as_heard, state_after, numbers_begin}
 use Rattle.laws_link.specs.Waiting.{waiting_left, lost_by}
-use Rattle.laws_link.specs.Flags.{peer_busy_left, own_busy_left, rejecting_left, pending_left, asked_left, repeats_left}
+use Rattle.laws_link.specs.Flags.{peer_busy_left, own_busy_left, rejecting_left, pending_left, asked_left, owed_left, repeats_left}
 use Rattle.laws_link.specs.Telling.{told_by}
 
 pub record Leaves (t : Terms) (e : Event) (before after : Link) (ns : List Note) (lost : ℕ) : Type 0 where
@@ -20,7 +20,8 @@ pub record Leaves (t : Terms) (e : Event) (before after : Link) (ns : List Note)
   pub own_busy : after.own_busy ≡ own_busy_left e before after.state
   pub rejecting : after.rejecting ≡ rejecting_left e before after.state
   pub pending : after.pending ≡ pending_left e before after.state
-  pub asked : after.asked ≡ asked_left e before after.state
+  pub asked : after.asked ≡ asked_left t e before after.state
+  pub owed : after.owed ≡ owed_left t e before after.state
   pub repeats : after.repeats ≡ repeats_left t e before after.state
 
 pub record Follows (t : Terms) (e : Event) (before after : Link) (ns : List Note) (lost : ℕ) : Type 0 where

@@ -19,8 +19,9 @@ abbrev pub known : Bool → List Note → Bool
 known up notes = fold seen up notes
 
 -- What it is to layer 3: down in state 4, and up in states 7 and 8. In state 5 it is down as long as layer 3 awaits the
--- establishment that it asked for, and still up where the link establishes itself anew (clause 5.7.1). In state 6 it is
--- up until the release is confirmed.
+-- establishment that it asked for, and still up where the link establishes itself anew (clause 5.7.1). In state 6 it is up
+-- until the release is confirmed. By annex B layer 3 may ask in state 5, too, and no note follows that: so there it is not what
+-- layer 3 was told.
 abbrev pub is_up_in : State → Link → Bool
 is_up_in TeiAssigned l = false
 is_up_in AwaitingEstablishment l = not l.asked

@@ -16,32 +16,33 @@ use Rattle.model_link.specs.Events.{Received, frame, overlong, Request, Establis
 use Rattle.model_link.specs.Told.{runs}
 
 -- By a frame of the grammar; a response is no command. In state 4 the terminal establishes the link (Q.921 clause
--- 5.5.1.2), or by annex B asks this side for it, by DM with F=0 (clause 5.5.4). In state 5 it agrees, or refuses (clause 5.5.1.2), and in state 6 either ends the link (clause 5.5.3.2). In
--- states 7 and 8 it establishes the link again, or releases it (clauses 5.5.1.2, 5.5.3.2 and 5.7), or this side establishes
--- it again after an error (clauses 5.7.1, 5.8.6 and 5.8.7); in state 8 a response with F=1 ends the recovery (clause
--- 5.6.7). No other frame moves a link.
-abbrev pub by_frame : Reading → State → Bool → Control → State
-by_frame reading TeiAssigned command (Sabme p) = Established
-by_frame reading TeiAssigned command (Dm false) = by_reading reading TeiAssigned AwaitingEstablishment
-by_frame reading TeiAssigned command other = TeiAssigned
-by_frame reading AwaitingEstablishment command (Ua true) = Established
-by_frame reading AwaitingEstablishment command (Dm true) = TeiAssigned
-by_frame reading AwaitingEstablishment command other = AwaitingEstablishment
-by_frame reading AwaitingRelease command (Ua true) = TeiAssigned
-by_frame reading AwaitingRelease command (Dm true) = TeiAssigned
-by_frame reading AwaitingRelease command other = AwaitingRelease
-by_frame reading Established command (Disc p) = TeiAssigned
-by_frame reading Established command (Dm false) = AwaitingEstablishment
-by_frame reading Established command (Frmr f) = AwaitingEstablishment
-by_frame reading Established command other = Established
-by_frame reading TimerRecovery command (Sabme p) = Established
-by_frame reading TimerRecovery command (Disc p) = TeiAssigned
-by_frame reading TimerRecovery command (Dm f) = AwaitingEstablishment
-by_frame reading TimerRecovery command (Frmr f) = AwaitingEstablishment
-by_frame reading TimerRecovery false (ReceiveReady nr true) = Established
-by_frame reading TimerRecovery false (ReceiveNotReady nr true) = Established
-by_frame reading TimerRecovery false (Reject nr true) = Established
-by_frame reading TimerRecovery command other = TimerRecovery
+-- 5.5.1.2), or by annex B asks this side for it, by DM with F=0 (clause 5.5.4). In state 5 it agrees, or refuses (clause
+-- 5.5.1.2); as it agrees, a release that is owed, as the first bit says, is carried out (annex B). In state 6 either ends the
+-- link (clause 5.5.3.2). In states 7 and 8 it establishes the link again, or releases it (clauses 5.5.1.2, 5.5.3.2 and 5.7), or
+-- this side establishes it again after an error (clauses 5.7.1, 5.8.6 and 5.8.7); in state 8 a response with F=1 ends the
+-- recovery (clause 5.6.7). No other frame moves a link.
+abbrev pub by_frame : Reading → Bool → State → Bool → Control → State
+by_frame reading owed TeiAssigned command (Sabme p) = Established
+by_frame reading owed TeiAssigned command (Dm false) = by_reading reading TeiAssigned AwaitingEstablishment
+by_frame reading owed TeiAssigned command other = TeiAssigned
+by_frame reading owed AwaitingEstablishment command (Ua true) = if owed then AwaitingRelease else Established
+by_frame reading owed AwaitingEstablishment command (Dm true) = TeiAssigned
+by_frame reading owed AwaitingEstablishment command other = AwaitingEstablishment
+by_frame reading owed AwaitingRelease command (Ua true) = TeiAssigned
+by_frame reading owed AwaitingRelease command (Dm true) = TeiAssigned
+by_frame reading owed AwaitingRelease command other = AwaitingRelease
+by_frame reading owed Established command (Disc p) = TeiAssigned
+by_frame reading owed Established command (Dm false) = AwaitingEstablishment
+by_frame reading owed Established command (Frmr f) = AwaitingEstablishment
+by_frame reading owed Established command other = Established
+by_frame reading owed TimerRecovery command (Sabme p) = Established
+by_frame reading owed TimerRecovery command (Disc p) = TeiAssigned
+by_frame reading owed TimerRecovery command (Dm f) = AwaitingEstablishment
+by_frame reading owed TimerRecovery command (Frmr f) = AwaitingEstablishment
+by_frame reading owed TimerRecovery false (ReceiveReady nr true) = Established
+by_frame reading owed TimerRecovery false (ReceiveNotReady nr true) = Established
+by_frame reading owed TimerRecovery false (Reject nr true) = Established
+by_frame reading owed TimerRecovery command other = TimerRecovery
 
 -- An I-frame over N201 is heard as one that was too long to keep (clause 5.8.5), and by annex B so is UI (clause 3.6.11).
 abbrev pub is_overlong : Terms → Control → List ℕ → Bool
@@ -70,9 +71,9 @@ abbrev pub is_faulty : Received → Link → Bool
 is_faulty (frame f) l = is_invalid l (receipt_of f.control)
 is_faulty other l = true
 
-abbrev pub by_received : Reading → State → Received → State
-by_received reading state (frame f) = by_frame reading state f.address.command f.control
-by_received reading state other = state
+abbrev pub by_received : Reading → Bool → State → Received → State
+by_received reading owed state (frame f) = by_frame reading owed state f.address.command f.control
+by_received reading owed state other = state
 
 -- By the expiry of a timer that runs; the bit says whether RC < N200. T200 in states 5, 6 and 8, where the command was not
 -- answered, ends the link, or establishes it again, after the last repeat (clauses 5.5.1.3, 5.5.3.3 and 5.6.7); T200 and
@@ -96,7 +97,7 @@ by_request state other = state
 
 -- By any event; where the TEI leaves the line, the link is as one that begins (clause 5.3.4).
 abbrev pub state_after : Terms → Event → Link → State
-state_after t (received r) l = if is_multiple_frame l.state && is_faulty r l then AwaitingEstablishment else by_received t.reading l.state r
+state_after t (received r) l = if is_multiple_frame l.state && is_faulty r l then AwaitingEstablishment else by_received t.reading l.owed l.state r
 state_after t (expired timer) l = if runs timer l.running then by_expiry l.state timer (may_repeat t l) else l.state
 state_after t (requested request pool_is_full) l = by_request l.state request
 state_after t offer l = l.state
@@ -126,15 +127,15 @@ is_clearing other = false
 abbrev pub is_anew : Event → State → State → Bool
 is_anew e from to = comes_to 5 from to || (leads_by_sabme e to || is_clearing e)
 
--- The numbers begin anew by SABME that leads to state 7, by UA with F=1 where the link comes there from state 5, and where
--- the TEI leaves; by nothing else, so by no UA in another state (clauses 5.5.1.2, 5.7 and 5.8.7).
+-- The numbers begin anew by SABME that leads to state 7, by UA with F=1 in state 5, and where the TEI leaves; by nothing else,
+-- so by no UA in another state (clauses 5.5.1.2, 5.7 and 5.8.7).
 abbrev pub is_agreement : Control → Bool
 is_agreement (Ua f) = f
 is_agreement other = false
 
-abbrev pub leads_by_agreement : Event → State → State → Bool
-leads_by_agreement (received (frame f)) from to = is_agreement f.control && comes_to 7 from to
-leads_by_agreement other from to = false
+abbrev pub leads_by_agreement : Event → State → Bool
+leads_by_agreement (received (frame f)) from = is_agreement f.control && (state_number from == 5)
+leads_by_agreement other from = false
 
 abbrev pub numbers_begin : Event → State → State → Bool
-numbers_begin e from to = leads_by_sabme e to || (leads_by_agreement e from to || is_clearing e)
+numbers_begin e from to = leads_by_sabme e to || (leads_by_agreement e from || is_clearing e)

@@ -43,12 +43,17 @@ told_in_4 t octets (Xid pf) = notes.Xid t.service t.tei ∷ []
 told_in_4 t octets other = []
 
 -- In state 5 the end of the establishment is told as layer 3 asked for it; where this side began it, only if contents were
--- outstanding (clauses 5.5.1.2 and 5.7).
+-- outstanding (clauses 5.5.1.2 and 5.7). The link's end is told as its release, if that is owed, which an establishment
+-- begins (annex B).
+abbrev pub down_from_5 : Bool → Terms → List Note
+down_from_5 owed t = if owed then release_confirm t else release_indication t
+
 abbrev pub told_in_5 : Terms → List ℕ → Control → Link → List Note
 told_in_5 t octets (Ua true) l =
-    if l.asked then notes.EstablishConfirm t.service t.tei ∷ [] else if l.s == l.a then [] else establish_indication t
+    if l.owed then [] else if l.asked then notes.EstablishConfirm t.service t.tei ∷ []
+    else if l.s == l.a then [] else establish_indication t
 told_in_5 t octets (Ua false) l = error t code.D
-told_in_5 t octets (Dm true) l = release_indication t
+told_in_5 t octets (Dm true) l = down_from_5 l.owed t
 told_in_5 t octets (Ui p) l = to_unit t octets
 told_in_5 t octets (Xid pf) l = notes.Xid t.service t.tei ∷ []
 told_in_5 t octets other l = []
@@ -104,11 +109,11 @@ told_received t wrong_size taken l to = told_malformed l.state t code.N
 told_received t overlong taken l to = told_malformed l.state t code.O
 
 -- The last expiry of T200 is told: errors G, H and I (clauses 5.5.1.3, 5.5.3.3 and 5.6.7).
-abbrev pub told_expired : State → Terms → State → List Note
-told_expired AwaitingEstablishment t TeiAssigned = error t code.G ++ release_indication t
-told_expired AwaitingRelease t TeiAssigned = error t code.H ++ release_confirm t
-told_expired TimerRecovery t AwaitingEstablishment = error t code.I
-told_expired other t to = []
+abbrev pub told_expired : State → Bool → Terms → State → List Note
+told_expired AwaitingEstablishment owed t TeiAssigned = error t code.G ++ down_from_5 owed t
+told_expired AwaitingRelease owed t TeiAssigned = error t code.H ++ release_confirm t
+told_expired TimerRecovery owed t AwaitingEstablishment = error t code.I
+told_expired other owed t to = []
 
 -- The release of a link that is down is confirmed; no other request is told (annex B).
 abbrev pub told_requested : State → Terms → Request → List Note
@@ -116,17 +121,18 @@ told_requested TeiAssigned t Release = release_confirm t
 told_requested other t request = []
 
 -- Where the TEI leaves, layer 3 is told as the state has it (clause 5.3.4).
-abbrev pub told_cleared : State → Terms → List Note
-told_cleared TeiAssigned t = []
-told_cleared AwaitingRelease t = release_confirm t
-told_cleared other t = release_indication t
+abbrev pub told_cleared : State → Bool → Terms → List Note
+told_cleared TeiAssigned owed t = []
+told_cleared AwaitingEstablishment owed t = down_from_5 owed t
+told_cleared AwaitingRelease owed t = release_confirm t
+told_cleared other owed t = release_indication t
 
 abbrev pub told_with : Terms → Event → Bool → Link → State → List Note
 told_with t (received r) taken l to = told_received t r taken l to
-told_with t (expired timer) taken l to = told_expired l.state t to
+told_with t (expired timer) taken l to = told_expired l.state l.owed t to
 told_with t (requested request pool_is_full) taken l to = told_requested l.state t request
 told_with t offer taken l to = []
-told_with t cleared taken l to = told_cleared l.state t
+told_with t cleared taken l to = told_cleared l.state l.owed t
 
 abbrev pub told_by : Terms → Event → Link → State → List Note
 told_by t e l to = told_with t e (takes_contents e l) l to

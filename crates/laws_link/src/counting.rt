@@ -14,7 +14,7 @@ ghost use Rattle.laws_link.specs.Counting.{at_most, nothing_yet, tally};
 /// - how many I-frames were sent whose number was sent before in the same establishment;
 /// - how often T200 expired;
 /// - how many REJ frames were sent, and how many were received in states 7 and 8;
-/// - how often the link was established, by SABME or by UA.
+/// - how often the link was established, by SABME or by UA. UA that leads to a release that is owed counts as none.
 ///
 /// Each number stays at 65535 once it is there.
 pub fn counts_are_true()

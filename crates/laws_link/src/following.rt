@@ -8,7 +8,7 @@ ghost use Rattle.model_link.specs.Machine.{after, told};
 ghost use Rattle.model_link.specs.Deliveries.{restarts};
 ghost use Rattle.laws_link.specs.States.{as_heard, state_after, numbers_begin};
 ghost use Rattle.laws_link.specs.Waiting.{waiting_left, lost_by};
-ghost use Rattle.laws_link.specs.Flags.{peer_busy_left, own_busy_left, rejecting_left, pending_left, asked_left, repeats_left};
+ghost use Rattle.laws_link.specs.Flags.{peer_busy_left, own_busy_left, rejecting_left, pending_left, asked_left, owed_left, repeats_left};
 ghost use Rattle.laws_link.specs.Telling.{told_by};
 
 /// States follow a table. The state that an event leaves a link in is the one to which the table of moves leads, from its
@@ -38,14 +38,16 @@ pub fn frames_follow()
 /// - An acknowledgement is owed for each I-frame that is taken, until a frame with N(R) is put, or goes, or the link
 ///   leaves states 7 and 8.
 ///
-/// All go off when an establishment begins. RC counts the expiries of T200 for the command that awaits its answer. By annex B
-/// it counts the one that leaves state 7, too (Q.921 clauses 5.5.1.3, 5.5.3.3, 5.6.2 to 5.6.7, 5.7 and 5.8.1).
+/// All go off when an establishment begins. What layer 3 asked for in state 5 is, by annex B, what it asked for last: the
+/// establishment, or the release, which is owed until the link leaves the state. RC counts the expiries of T200 for the
+/// command that awaits its answer. By annex B it counts the one that leaves state 7, too (Q.921 clauses 5.5.1.3, 5.5.3.3, 5.6.2 to 5.6.7, 5.7 and 5.8.1).
 pub fn flags_follow()
     ensures peer_busy { (t : Terms) (e : Event) (l : Link) → (after t e l).peer_busy ≡ peer_busy_left (as_heard t e) l (after t e l).state }
     ensures own_busy { (t : Terms) (e : Event) (l : Link) → (after t e l).own_busy ≡ own_busy_left (as_heard t e) l (after t e l).state }
     ensures rejecting { (t : Terms) (e : Event) (l : Link) → (after t e l).rejecting ≡ rejecting_left (as_heard t e) l (after t e l).state }
     ensures pending { (t : Terms) (e : Event) (l : Link) → (after t e l).pending ≡ pending_left (as_heard t e) l (after t e l).state }
-    ensures asked { (t : Terms) (e : Event) (l : Link) → (after t e l).asked ≡ asked_left (as_heard t e) l (after t e l).state }
+    ensures asked { (t : Terms) (e : Event) (l : Link) → (after t e l).asked ≡ asked_left t (as_heard t e) l (after t e l).state }
+    ensures owed { (t : Terms) (e : Event) (l : Link) → (after t e l).owed ≡ owed_left t (as_heard t e) l (after t e l).state }
     ensures repeats { (t : Terms) (e : Event) (l : Link) → (after t e l).repeats ≡ repeats_left t (as_heard t e) l (after t e l).state }
 {}
 

@@ -5,11 +5,16 @@ use Rattle.laws_order.proofs.Vocabulary.{event-goes, read-again, frames_by, fres
 use Rattle.laws_order.proofs.Vocabulary.{NoteError, NoteXid, NoteAssigned, NoteReleaseConfirm, NoteDoubled, NoteUnit, or-true, event-follows, own_side}
 use Rattle.lapd_frame.specs.declared.notes.Note.TheVariants.{Denied, Unassigned, RemoveAll}
 use Rattle.laws_trace.proofs.DataAsked.{elsewhere}
+use Rattle.laws_link.proofs.KnownRows.{is_decided}
 use Rattle.model_link.specs.Machine as links
 use Rattle.model_line.specs.Machine as lines
 use Rattle.model_line.specs.Sound as line_sound
 use Rattle.laws_order.proofs.LinkEnds.{Ended, own, Leaves, IsNoRelease, event-leaves, Fallen, undefined-falls, wrong-size-falls, overlong-falls, unit-data}
 use Rattle.laws_order.proofs.Shown.{fits, same-frames, noted-is, asked_in, granted-is, ends-is, request-ends}
+
+-- In states 7 and 8 layer 3 decides nothing about an establishment that is under way.
+calm-up : (x : State) → is_multiple_frame x ≡ true → is_decided x ≡ true
+calm-up x up = grind arith
 
 -- Where the notes of a link that was up say that it is down, one of them ends it.
 module _ (service : Service) (tei : ℕ) where
@@ -149,7 +154,7 @@ module _ (c : Config) (service : Service) (tei : ℕ) where
 
     ended-does : k' ≡ fresh → Does k k' e a
     ended-does new = inl (
-      ends-is service tei e a (fits c e l) (fresh-ends service tei l (lines.after c e l) (notes_of a) up new (known-up c e l service tei s)),
+      ends-is service tei e a (fits c e l) (fresh-ends service tei l (lines.after c e l) (notes_of a) up new (known-up c e l service tei s (calm-up (link_of service tei l).state up))),
       ap (λ (y : Link). is_multiple_frame y.state) new,
     )
 
@@ -183,7 +188,11 @@ module _ (c : Config) (service : Service) (tei : ℕ) where
       fallen-one ev is h = grind (arith, ends-one, Ended, state-one)
 
       granted-one : (ev : LinkEvent) → IsBy c e a service tei ev → IsKind e ev → asked_in service tei e a ≡ accepted Own ev k
-      granted-one ev by kind = grind (arith, asked_in, granted-data, not-refused, link-grants)
+      granted-one (received (link_frame f)) by kind = ap (λ e. asked_in service tei e a) kind.1
+      granted-one (expired timer) by kind = ap (λ e. asked_in service tei e a) kind
+      granted-one offer by kind = ap (λ e. asked_in service tei e a) kind
+      granted-one (requested asked full) by kind = grind (arith, asked_in, granted-data, not-refused, link-grants)
+      granted-one other by kind = absurd kind
 
       malformed-one : (x.event ≡ received undefined) ⊎ (x.event ≡ received wrong_size) ⊎ (x.event ≡ received overlong) → Does k k' e a
       malformed-one h = grind (arith, fallen-one, undefined-falls, wrong-size-falls, overlong-falls)

@@ -28,12 +28,12 @@ module _ (t : Terms) where
   module _ (l : Link) (octets : List ℕ) (taken : Bool) where
     abbrev By : State → Bool → Control → Type 0
     By here command control =
-        let now = cond (is_multiple_frame here && is_invalid l (receipt_of control)) AwaitingEstablishment (by_frame t.reading here command control) in
+        let now = cond (is_multiple_frame here && is_invalid l (receipt_of control)) AwaitingEstablishment (by_frame t.reading l.owed here command control) in
         Leaves (told_by_frame here t command octets control taken l now) now
 
     -- in state 8 a response with F=1 leads back to state 7
-    information-up : (command : Bool) (ns nr : Seq) (p : Bool) → IsTrue (is_multiple_frame (by_frame t.reading TimerRecovery command (Information ns nr p)))
-    information-up command ns nr p = grind arith
+    information-up : (owed command : Bool) (ns nr : Seq) (p : Bool) → IsTrue (is_multiple_frame (by_frame t.reading owed TimerRecovery command (Information ns nr p)))
+    information-up owed command ns nr p = grind arith
 
     in-state : (here : State) → IsTrue (is_multiple_frame here) → (command : Bool) (control : Control) → By here command control
     in-state here up command control = grind (arith, list_any-append, or-true, before, error-ends, one-ends, own, information-up)
@@ -42,8 +42,8 @@ module _ (t : Terms) where
   IsNoRelease (requested Release full) = ⊥
   IsNoRelease other = Unit {0}
 
-  clears : (here : State) → IsTrue (is_multiple_frame here) → Ended (told_cleared here t)
-  clears here up = grind (arith, one-ends, own)
+  clears : (here : State) (owed : Bool) → IsTrue (is_multiple_frame here) → Ended (told_cleared here owed t)
+  clears here owed up = grind (arith, one-ends, own)
 
   -- An event ends it, and leaves it in state 4, 5 or 6.
   abbrev pub Fallen : Event → Link → Type 0

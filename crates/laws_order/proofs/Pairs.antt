@@ -1,7 +1,8 @@
 -- Two cards whose links face each other: what each thing that happens makes of the two ends.
 use Rattle.laws_order.proofs.Vocabulary.{◌≡◌, ℕ, ◌<◌, ◌==◌, ◌&&◌, not, Bool, true, false, cond, IsTrue, List, [], ◌∷◌, ◌++◌, map, get_or, set, Option, Some, None, IfSome, refl, sym, ap, ◌∙◌, subst, arith, append-nil, eq-eqb, true≢false, inl, inr, All, option_to_list, unwrap_or, list_any, option_map_or, get_or-set_same, All-nil, All-cons, All-head, PoolFull, Service, Parts, sapi_of}
 use Rattle.laws_order.proofs.Vocabulary.{reading-again, place_of-is, Terms, LinkTimer, Link, is_multiple_frame, frame_of, Given, LinkEndpoint, with_link, with_sent, frame_given, frames_of, given_is_frame, Joined, done-at, Means, Rising, Config, Line, fresh_line, link_in, link_of, place_in, terms, sound_in, terms_in_range, line_at, has_lines, by_room, accepted, Seen, seen, is_ui}
-use Rattle.laws_order.proofs.Vocabulary.{offer-tells_nothing, frames_given, Endpoint, Wire, answered, happens, frames_by, flat_map-append, fresh, Event, at, is_of_link, of_link_in, of_link_at, data_noted, data_granted, ends_by, of_link_on, line_of, is_some, Refusal, State, Release, SetBusy, ClearBusy, received, expired, requested, offer, Course, Up, still, set_busy_up, clear_busy_up, at-first}
+use Rattle.laws_order.proofs.Vocabulary.{offer-tells_nothing, frames_given, Endpoint, Wire, answered, happens, frames_by, flat_map-append, fresh, Event, at, is_of_link, of_link_in, of_link_at, data_noted, data_granted, ends_by, of_link_on, line_of, is_some, Refusal, State, TimerRecovery, Release, SetBusy, ClearBusy, received, expired, requested, offer, Course, Up, still, set_busy_up}
+use Rattle.laws_order.proofs.Vocabulary.{clear_busy_up, at-first}
 use Rattle.laws_order.proofs.Vocabulary.{offer-gave, frame-taken, after, begun, contents_asked, LinkEvent, LinkRequest, told, link_given, own_side, heard_side}
 use Rattle.model_link.specs.Sound as link_sound
 use Rattle.model_link.specs.TwoEnds as two
@@ -11,6 +12,7 @@ use Rattle.model_card.specs.Sound as card_sound
 use Rattle.model_card.proofs.Steps.{line_sound as line_sound_at}
 use Rattle.laws_order.proofs.Does.{Has, LeavesIt, Does, line-does}
 use Rattle.laws_order.proofs.Shown.{none-noted, none-granted}
+use Rattle.model_link.specs.declared.states.State.TheVariants.{Established}
 use Rattle.model_link.specs.Events.{Request, Establish, Data, frame}
 use Rattle.model_link.specs.Requests
 use Rattle.model_link.specs.Sound.{IsInRange, IsSound}
@@ -27,9 +29,14 @@ module _ (t : Terms) (l : Link) where
   released : (here : State) → IsTrue (is_multiple_frame here) → IsTrue (is_multiple_frame (Requests.release_in here t (begun l)).link.state) → ⊥
   released here was up = grind arith
 
+  opened : (here : State) → IsTrue (is_multiple_frame here) → Grows [] (Requests.establish_in here t (begun l))
+  opened Established was = (sym (append-nil l.contents), refl)
+  opened TimerRecovery was = (sym (append-nil l.contents), refl)
+  opened other was = absurd (true≢false (sym was))
+
   granted : IsTrue (is_multiple_frame l.state) → (request : Request) → IsTrue (is_multiple_frame (Requests.granted t request (begun l)).link.state)
       → Grows (contents_asked request) (Requests.granted t request (begun l))
-  granted was Establish up = absurd (true≢false (sym up))
+  granted was Establish up = opened l.state was
   granted was Release up = absurd (released l.state was up)
   granted was (Data octets) up = (refl, refl)
   granted was SetBusy up = by-up _ ((set_busy_up t l {S = still l.s}).leads (begun l) (at-first t l)) up

@@ -1,5 +1,6 @@
 -- What one event at an end tells of its link in state 6, and in state 4.
-use Rattle.laws_order.proofs.Vocabulary.{◌≡◌, ℕ, Bool, true, false, cond, List, [], ◌∷◌, get_or, set, Option, Some, None, refl, sym, ap, ◌∙◌, subst, arith, append-nil, true≢false, ◌⊎◌, inl, inr, filter, option_to_list, list_any, get_or-set_same, Control, H, Note, Refusal, PoolFull, Service, TeiAssigned, AwaitingRelease, Terms, Link, state_number, Config, Answer, refused, Line, fresh_line, has_tei}
+use Rattle.laws_order.proofs.Vocabulary.{◌≡◌, ℕ, Bool, true, false, cond, List, [], ◌∷◌, get_or, set, Option, Some, None, refl, sym, ap, ◌∙◌, subst, arith, append-nil, true≢false, ◌⊎◌, inl, inr, filter, option_to_list, list_any, get_or-set_same, Control, H, Note, Refusal, PoolFull, Service, State, TeiAssigned, AwaitingRelease, Terms, Link, state_number, Config, Answer, refused, Line, fresh_line}
+use Rattle.laws_order.proofs.Vocabulary.{has_tei}
 use Rattle.laws_order.proofs.Vocabulary.{link_of, place_in, terms, line_at, has_lines, by_room, notes_of, contents_in, deactivates, IsBy, is-off, seen, is_ui, unless, no-data, on-line, own-is, leaving-due, none-filtered, others-silent, due, HasOne, HasNone, IsGivenUp, event-goes, off-fresh, Endpoint, answered, happens, fresh, at, line_of, data_noted, is_news, news, begins_by_note, begins_by}
 use Rattle.laws_order.proofs.Vocabulary.{Reading, NoCall, Parts, is_for, is_called, is_in_4, is_plain_dm, brings, sapi-is, eq-eqb, ◌&&◌, option_map_or}
 use Rattle.laws_order.proofs.Vocabulary.{BeginsNothing, link_frame, received, LinkEvent, cleared, after, told, NoteError, NoteReleaseConfirm, or-true, Event}
@@ -10,6 +11,8 @@ use Rattle.model_card.proofs.Steps.{line_sound as sound_line}
 use Rattle.std.specs.Result.{result_ok}
 use Rattle.laws_trace.specs.LinkFrames.{its_frame}
 use Rattle.laws_trace.specs.News as trace
+use Rattle.laws_trace.proofs.NewsOfLink.{Asks}
+use Rattle.laws_trace.proofs.NewsWatched.{none_wanted}
 use Rattle.laws_order.proofs.Down.{Speaks}
 use Rattle.laws_order.proofs.LinkReleased.{Tells, In6, In4, Begins, Confirms, ConfirmsAt, rings, in-6, in-4}
 use Rattle.laws_order.proofs.Pairs.{link_here, IsWell}
@@ -125,9 +128,13 @@ module _ (service : Service) (tei : ℕ) where
       on-says : (there : ℕ) → place_in l' tei ≡ Some there → Says r a []
       on-says there still = by-trace [] (none-filtered service tei (notes_of a) (others-silent service tei c e l s x.aims (inr (on-line l' tei there still))))
 
-      left-says : (place : ℕ) → place_in l tei ≡ Some place → place_in l' tei ≡ None
-          → Says r a (News r (due service tei [] false false false false false (state_number k.state) 4))
-      left-says place on off = by-trace _ (leaving-due service tei c e l s place on (is-off l'.management.places tei off) false false)
+      left-says : (place : ℕ) → place_in l tei ≡ Some place → place_in l' tei ≡ None → Asks k.state none_wanted k.asked k.owed
+          → Says r a (News r (due service tei [] none_wanted false false false false (state_number k.state) 4))
+      left-says place on off asks = by-trace _ (leaving-due service tei c e l s place on (is-off l'.management.places tei off) none_wanted false asks)
+
+      -- in state 4 and in state 6 nothing is kept for layer 3
+      none-asks : (here : State) → k.state ≡ here → Asks here none_wanted k.asked k.owed → Asks k.state none_wanted k.asked k.owed
+      none-asks here is = subst (λ here. Asks here none_wanted k.asked k.owed) (sym is)
 
       none-six : k.state ≡ AwaitingRelease → Six Cause r k' a
       none-six is = go (place_in l tei) refl (place_in l' tei) refl
@@ -140,7 +147,7 @@ module _ (service : Service) (tei : ℕ) where
               inr (
                 new-state (off-fresh service tei l' off),
                 inl (
-                  subst (Says r a) (ap (λ here. News r (due service tei [] false false false false false (state_number here) 4)) is ∙ confirm-is) (left-says place on off),
+                  subst (Says r a) (ap (λ here. News r (due service tei [] none_wanted false false false false (state_number here) 4)) is ∙ confirm-is) (left-says place on off (none-asks AwaitingRelease is tt)),
                   λ none. true≢false (sym none.stays ∙ is-off l'.management.places tei off),
                 ),
               )
@@ -154,7 +161,9 @@ module _ (service : Service) (tei : ℕ) where
           go : (o : Option ℕ) → place_in l tei ≡ o → (p : Option ℕ) → place_in l' tei ≡ p → Four r k' a
           go None off p q = off-says off
           go (Some place) on (Some there) still = grind (arith, on-line, on-says)
-          go (Some place) on None off = grind (arith, new-state, off-fresh, left-says)
+          go (Some place) on None off =
+              let asks = none-asks TeiAssigned is tt in
+              grind (arith, new-state, off-fresh, left-says, asks)
 
     -- an event of it
     module _ (x : HasOne c service tei e l l' a) where

@@ -37,9 +37,10 @@ pub fn delivered_in_order()
 {}
 
 /// A release ends it. At an end of the wire `Card::state` tells 6 of the link. So it does after layer 3 is granted the
-/// release of a link in state 7 or 8, whatever it kept, and whatever is in transit (Q.921 clause 5.5.3.2). Then
-/// anything happens at both ends, as in [`delivered_in_order`]; the other releases, too, or does anything else. Layer 3
-/// of this end is told of the link that the release is confirmed, once, and no data. This ends when it is granted an
+/// release of a link in state 7 or 8, whatever it kept, and whatever is in transit (Q.921 clause 5.5.3.2). By annex B
+/// it does so, too, as UA with F=1 is heard in state 5 while a release is owed that was granted there. Then anything
+/// happens at both ends, as in [`delivered_in_order`]; the other releases, too, or does anything else. Layer 3 of this
+/// end is told of the link that the release is confirmed, once, and no data. This ends when it is granted an
 /// establishment or another release, or is told of an establishment. Error H comes before it if N200 repeats of DISC
 /// had no answer (`released`).
 ///
@@ -59,7 +60,10 @@ pub fn releases_end()
 /// A release is told in the end, at both ends. At an end of the wire the link is in state 6, as after layer 3 was
 /// granted the release of a link in state 7 or 8, whatever waits and whatever is in transit. (A release that is granted
 /// in state 4 leaves the link in state 4. It is confirmed at once, no DISC is sent, and the other end is not told. Of
-/// it this law says nothing.) Then anything happens at both, as in [`delivered_in_order`], and frames are lost, too.
+/// it this law says nothing. By annex B one that is granted in state 5 is owed there. This law says nothing of it until
+/// UA leads the link to state 6. If no UA comes, that is after up to N200 + 1 expiries in state 5, by error G and the
+/// confirm: `links_move` and `news_is_told` of `laws_trace`.) Then anything happens at both, as in
+/// [`delivered_in_order`], and frames are lost, too.
 ///
 /// Once T200 has expired there more than N200 times, if not before, this end was told that the release is confirmed, by
 /// itself or after error H. The exception is that something else began, as in [`releases_end`] (`here`; Q.921 clauses

@@ -1,4 +1,5 @@
 -- No answer is awaited longer at a card of octets, and N200 takes its time there, as at the card of frames inside.
+use Rattle.laws_time.specs.Watched.{owed_by, owed_inside}
 use Rattle.laws_time.proofs.Vocabulary.{ADeadLineIsTold, ArePrompt, AreStill, Event as FrameEvent, IsToldInTime, List, N200TakesItsTime, NoAnswerIsAwaitedLonger, None, Note, OctetEvent as Event, Option, Service, Some, StaysIn, Step, TimedCard, TimedOctetCard, [], after_all, due, error_in, falls_due, false, flat_map, frames, fresh, is_used_up, least_tries, list_any, news, octets, of_frames}
 use Rattle.laws_time.proofs.Vocabulary.{of_octets, refl, state, step_happens as happens, subst, sym, time, ℕ, ◌*◌, ◌+◌, ◌<◌, ◌∷◌, ◌≡◌, ◌≤◌}
 use Rattle.model_line.specs.Event as line
@@ -51,8 +52,8 @@ n200-takes-its-time-of-octets service c lengths late number tei n before steps r
 pub a-dead-line-is-told-of-octets : ADeadLineIsTold of_octets
 a-dead-line-is-told-of-octets service c lengths late number tei from before steps ranged within low prompt_before prompt at_from still =
     let t = after_all octets before (fresh c lengths) in let its = frame_steps steps t in let t_is = steps-inside before (fresh c lengths) in
-    let InTime = λ (v u : TimedCard). IsToldInTime late from c lengths service tei v.clock.now u.clock.now (news of_frames service tei number its v) in
-    subst (λ told. IsToldInTime late from c lengths service tei t.clock.now (after_all octets steps t).clock.now told) (sym (news-inside c service tei number steps t))
+    let InTime = λ (v u : TimedCard). IsToldInTime late from (owed_by number service tei v.card) c lengths service tei v.clock.now u.clock.now (news of_frames service tei number its v) in
+    subst (λ told. IsToldInTime late from (owed_inside number service tei t.card) c lengths service tei t.clock.now (after_all octets steps t).clock.now told) (sym (news-inside c service tei number steps t))
     (subst (λ (u : TimedCard). InTime (inside t) u) (sym (steps-inside steps t)) (subst (λ (v : TimedCard). InTime v (after_all frames its v)) (sym t_is)
     (a-dead-line-is-told service c lengths late number tei from (frame_steps before (fresh c lengths)) its ranged within low (prompt-inside late before (fresh c lengths) prompt_before)
     (subst (ArePrompt frames late its) t_is (prompt-inside late steps t prompt)) (subst (λ (v : TimedCard). state number service tei v.card ≡ Some from) t_is at_from)

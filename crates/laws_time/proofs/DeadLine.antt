@@ -1,16 +1,17 @@
 -- What is told at first and in the end, over plain values.
 use Rattle.laws_time.proofs.Vocabulary.{ADeadLineIsTold, ArePrompt as TimedArePrompt, AreStill, Clock, Config, Event, Expiry, IsFront, IsInRange, IsNoExpiry, IsStillAt, IsToldInTime, Lengths, LinkTimer, List, Moment, None, Note, Observed, Option, Service, Some, Step, T200, T203, TimedCard, View, [], after_all as timed_after_all, all_in, ap, append-nil, append_assoc, arith}
-use Rattle.laws_time.proofs.Vocabulary.{at, at_moment, cond, due, eqb-true, event_of, events_of, expiry, falls_due, false, filter, first_in, inl, inr, is_news, is_on, is_some, length, length-append, nat_le, news, news_in, notes_of, of_frames, option_map, option_map_or, option_to_list, refl, runs, state, step_happens as happens, subst, sym, time, by-bool}
+use Rattle.laws_time.proofs.Vocabulary.{Bool, at, at_moment, cond, due, eqb-true, event_of, events_of, expiry, falls_due, false, filter, first_in, inl, inr, is_news, is_on, is_some, length, length-append, nat_le, news, news_in, notes_of, of_frames, option_map, option_map_or, option_to_list, refl, runs, state, step_happens as happens, subst, sym, time, by-bool}
 use Rattle.laws_time.proofs.Vocabulary.{timed_events_of, told_in, true, true≢false, view_behind, view_of, without_first, ℕ, ⊎_elim, ◌++◌, ◌+◌, ◌-◌, ◌<◌, ◌==◌, ◌∙◌, ◌∷◌, ◌≡◌, ◌≤◌, ◌⊎◌}
 use Rattle.lapd_frame.specs.declared.timers.Timer.TheVariants as timers
 use Rattle.model_line.specs.Event as line_event
 use Rattle.model_card.specs.Card as cards
 use Rattle.model_card.specs.Run as runs_of
 use Rattle.model_card.specs.Machine.{answer}
+use Rattle.laws_time.specs.Watched.{owed_by}
 use Rattle.model_timed.specs.Frames.{fresh, after, after_all, ArePrompt}
-use Rattle.laws_time.proofs.Silent.{Due200, Due203, owed, whole, left-in-all, Waits, waits-still, waits-200, waits-203, idle, idle-200-is, idle-203-is, idle-7, never-both, limit, IsPhase}
+use Rattle.laws_time.proofs.Silent.{Due200, Due203, owed, owed_of, whole, left-in-all, Waits, waits-still, waits-200, waits-203, idle, idle-200-is, idle-203-is, idle-7, never-both, limit, IsPhase}
 use Rattle.laws_time.proofs.TimedFrames.{with_event, expiry_of, with_expiry as timed_expiry, IsPrompt}
-use Rattle.laws_time.proofs.Links.{view-then, on-where, state-is, elsewhere}
+use Rattle.laws_time.proofs.Links.{view-then, on-where, state-is, owed-so, elsewhere}
 use Rattle.laws_time.proofs.Moments.{at-lines}
 use Rattle.laws_time.proofs.Effects.{is_its_expiry}
 use Rattle.laws_time.proofs.Walk.{Stands, Holds, seen}
@@ -55,19 +56,19 @@ module _ (c : Config) (lengths : Lengths) (late now : ℕ) where
   start-wait from low high = grind arith
 
   -- The end: a state, what was told, and a moment that T200 or T203 is not overdue.
-  module _ (service : Service) (tei : ℕ) (from : ℕ) (low : 5 ≤ from) (high : from ≤ 8) (to then_is : ℕ) (told : List Note) (told_is : told ++ owed service tei to ≡ told_in from service tei)
+  module _ (service : Service) (tei : ℕ) (from : ℕ) (low : 5 ≤ from) (high : from ≤ 8) (release release_then : Bool) (to then_is : ℕ) (told : List Note) (told_is : told ++ owed service tei release_then to ≡ told_in from release service tei)
       (waits_7 : (to ≡ 7) ⊎ (to ≡ 8) → then_is ≤ F from) (waits_5 : (to ≡ 5) ⊎ (to ≡ 6) → then_is ≤ A from) where
-    counted : length told + length (owed service tei to) ≡ length (told_in from service tei)
-    counted = sym (length-append told (owed service tei to)) ∙ ap length told_is
+    counted : length told + length (owed service tei release_then to) ≡ length (told_in from release service tei)
+    counted = sym (length-append told (owed service tei release_then to)) ∙ ap length told_is
 
     F-below : F from ≤ A from
     F-below = omega arith
 
-    at-least : 2 ≤ length (told_in from service tei)
+    at-least : 2 ≤ length (told_in from release service tei)
     at-least = grind arith
 
     -- In states 5 and 6, two are owed: either all of it, as at first, where both times are the same, or one was told.
-    two-owed : length (owed service tei to) ≡ 2 → then_is ≤ A from → F from < then_is → 1 ≤ length told
+    two-owed : length (owed service tei release_then to) ≡ 2 → then_is ≤ A from → F from < then_is → 1 ≤ length told
     two-owed two bound later = go (four from (omega (arith, low)) high)
       where
         same-times : (n : ℕ) → from ≡ n → A n ≡ F n → 1 ≤ length told
@@ -77,21 +78,21 @@ module _ (c : Config) (lengths : Lengths) (late now : ℕ) where
         go (inl is) = absurd (omega (arith, low, is))
         go (inr (inl is)) = same-times 5 is (omega arith)
         go (inr (inr (inl is))) = same-times 6 is (omega arith)
-        go (inr (inr (inr (inl is)))) = let three : length (told_in from service tei) ≡ 3 = ap (λ n. length (told_in n service tei)) is in omega (arith, counted, two, three)
-        go (inr (inr (inr (inr is)))) = let three : length (told_in from service tei) ≡ 3 = ap (λ n. length (told_in n service tei)) is in omega (arith, counted, two, three)
+        go (inr (inr (inr (inl is)))) = let three : length (told_in from release service tei) ≡ 3 = ap (λ n. length (told_in n release service tei)) is in omega (arith, counted, two, three)
+        go (inr (inr (inr (inr is)))) = let three : length (told_in from release service tei) ≡ 3 = ap (λ n. length (told_in n release service tei)) is in omega (arith, counted, two, three)
 
-    pub ended : 4 ≤ to → to ≤ 8 → IsToldInTime late from c lengths service tei now then_is told
+    pub ended : 4 ≤ to → to ≤ 8 → IsToldInTime late from release c lengths service tei now then_is told
     ended least most = go (four to least most)
       where
-        front : IsFront told (told_in from service tei)
-        front = record { rest = owed service tei to; whole_is = sym told_is }
+        front : IsFront told (told_in from release service tei)
+        front = record { rest = owed service tei release_then to; whole_is = sym told_is }
 
-        go : (to ≡ 4) ⊎ ((to ≡ 5) ⊎ ((to ≡ 6) ⊎ ((to ≡ 7) ⊎ (to ≡ 8)))) → IsToldInTime late from c lengths service tei now then_is told
+        go : (to ≡ 4) ⊎ ((to ≡ 5) ⊎ ((to ≡ 6) ⊎ ((to ≡ 7) ⊎ (to ≡ 8)))) → IsToldInTime late from release c lengths service tei now then_is told
         go (inl is) =
-            let done : told ≡ told_in from service tei = sym (append-nil told) ∙ ap (λ n. told ++ owed service tei n) (sym is) ∙ told_is in
+            let done : told ≡ told_in from release service tei = sym (append-nil told) ∙ ap (λ n. told ++ owed service tei release_then n) (sym is) ∙ told_is in
             record { front = front; first = λ later. subst (λ ns. 1 ≤ length ns) (sym done) (omega (arith, at-least)); all = λ later. done }
-        go (inr (inl is)) = record { front = front; first = two-owed (ap (λ n. length (owed service tei n)) is) (waits_5 (inl is)); all = λ later. absurd (omega (arith, later, waits_5 (inl is))) }
-        go (inr (inr (inl is))) = record { front = front; first = two-owed (ap (λ n. length (owed service tei n)) is) (waits_5 (inr is)); all = λ later. absurd (omega (arith, later, waits_5 (inr is))) }
+        go (inr (inl is)) = record { front = front; first = two-owed (ap (λ n. length (owed service tei release_then n)) is) (waits_5 (inl is)); all = λ later. absurd (omega (arith, later, waits_5 (inl is))) }
+        go (inr (inr (inl is))) = record { front = front; first = two-owed (ap (λ n. length (owed service tei release_then n)) is) (waits_5 (inr is)); all = λ later. absurd (omega (arith, later, waits_5 (inr is))) }
         go (inr (inr (inr (inl is)))) =
             record { front = front; first = λ later. absurd (omega (arith, later, waits_7 (inl is))); all = λ later. absurd (omega (arith, later, waits_7 (inl is), F-below)) }
         go (inr (inr (inr (inr is)))) =
@@ -144,7 +145,7 @@ module _ (c : Config) (lengths : Lengths) (late number : ℕ) (ranged : IsInRang
         goes = g;
         on = on;
         phase = subst IsPhase (sym same) w.phase;
-        told_is = grind (arith, cond, filter, is_news, notes_of, owed, state, append-nil);
+        told_is = grind (arith, cond, filter, is_news, notes_of, owed, owed_of, state, append-nil);
         wait = λ up. w.wait (ap (λ (o : Observed). nat_le 7 o.state) (sym same) ∙ up);
         t200 = subst (λ (o : Observed). H T200 (events ++ e ∷ []) (with_event e u).clock (λ m. Due200 c lengths.t200 late first all o.state o.expiries m)) (sym same)
             (other-line c lengths late number ranged within service tei events u s (DueAt200 events) e T200 other h200);
@@ -247,12 +248,19 @@ module _ (c : Config) (t200 late first all now m : ℕ) (late_is : now ≤ m + l
   within-203 : Due203 c t200 late first all m → now ≤ first
   within-203 h = omega (arith, h, late_is)
 
-owed-is : (service : Service) (tei n : ℕ) → 5 ≤ n → owed service tei n ≡ told_in n service tei
-owed-is service tei n low = grind arith
+owed-is : (service : Service) (tei : ℕ) (release owes : Bool) (n : ℕ) → 5 ≤ n → n ≤ 8 → (n ≡ 5 → release ≡ owes) → owed service tei release n ≡ told_in n owes service tei
+owed-is service tei release owes n low high same = go (four n (omega (arith, low)) high)
+  where
+    go : (n ≡ 4) ⊎ ((n ≡ 5) ⊎ ((n ≡ 6) ⊎ ((n ≡ 7) ⊎ (n ≡ 8)))) → owed service tei release n ≡ told_in n owes service tei
+    go (inl is) = absurd (omega (arith, low, is))
+    go (inr (inl is)) = ap (λ r. owed service tei r n) (same is) ∙ ap (owed service tei owes) is ∙ sym (ap (λ m. told_in m owes service tei) is)
+    go (inr (inr (inl is))) = ap (owed service tei release) is ∙ sym (ap (λ m. told_in m owes service tei) is)
+    go (inr (inr (inr (inl is)))) = ap (owed service tei release) is ∙ sym (ap (λ m. told_in m owes service tei) is)
+    go (inr (inr (inr (inr is)))) = ap (owed service tei release) is ∙ sym (ap (λ m. told_in m owes service tei) is)
 
 pub a-dead-line-is-told : ADeadLineIsTold of_frames
 a-dead-line-is-told service c lengths late number tei from before steps ranged within low prompt_before prompt at_from still =
-    ended c lengths late t.clock.now service tei from low high (o_last).state (after_all steps t).clock.now (news of_frames service tei number steps t) last.told_is waits-7 waits-5 last.phase.least last.phase.most
+    ended c lengths late t.clock.now service tei from low high owes (o_last).owed (o_last).state (after_all steps t).clock.now (news of_frames service tei number steps t) last.told_is waits-7 waits-5 last.phase.least last.phase.most
   where
     t : TimedCard
     t = after_all before (fresh c lengths)
@@ -269,6 +277,14 @@ a-dead-line-is-told service c lengths late number tei from before steps ranged w
     state_is : (seen c lengths late number ranged within service tei (events_of before (fresh c lengths))).state ≡ from
     state_is = state-is c (events_of before (fresh c lengths)) number ranged g.stands.all within service tei from (ap (state number service tei) (sym g.stands.card) ∙ at_from)
 
+    owes : Bool
+    owes = owed_by number service tei t.card
+
+    so-owed : from ≡ 5 → (seen c lengths late number ranged within service tei (events_of before (fresh c lengths))).owed ≡ owed_by number service tei (after_all before (fresh c lengths)).card
+    so-owed is =
+        owed-so c (events_of before (fresh c lengths)) number ranged g.stands.all within service tei (ap (state number service tei) (sym g.stands.card) ∙ at_from ∙ ap Some is)
+        ∙ ap (owed_by number service tei) (sym g.stands.card)
+
     high : from ≤ 8
     high = told-low service tei number (after_all before (fresh c lengths)).card from at_from
 
@@ -278,12 +294,12 @@ a-dead-line-is-told service c lengths late number tei from before steps ranged w
     all : ℕ
     all = A c lengths late t.clock.now from
 
-    w : Waits c lengths late number ranged within service tei first all (told_in from service tei) events t []
+    w : Waits c lengths late number ranged within service tei first all (told_in from owes service tei) events t []
     w = record {
       goes = g;
       on = on-where c (events_of before (fresh c lengths)) number ranged g.stands.all within service tei (ap is_some (ap (state number service tei) (sym g.stands.card) ∙ at_from));
       phase = record { least = omega (arith, low, state_is); most = omega (arith, high, state_is) };
-      told_is = ap (owed service tei) state_is ∙ owed-is service tei from low;
+      told_is = ap (owed service tei o.owed) state_is ∙ owed-is service tei o.owed owes from low high so-owed;
       wait = λ up. start-wait c lengths late t.clock.now from low high (ap (nat_le 7) (sym state_is) ∙ up);
       t200 = λ run. let d = g.timers_are T200 run in (
         d.0,
@@ -300,8 +316,8 @@ a-dead-line-is-told service c lengths late number tei from before steps ranged w
       );
     }
 
-    last : Waits c lengths late number ranged within service tei first all (told_in from service tei) (events ++ events_of steps t) (after_all steps t) (news of_frames service tei number steps t)
-    last = steps-wait c lengths late number ranged within service tei first all (told_in from service tei) events t [] steps w prompt still
+    last : Waits c lengths late number ranged within service tei first all (told_in from owes service tei) (events ++ events_of steps t) (after_all steps t) (news of_frames service tei number steps t)
+    last = steps-wait c lengths late number ranged within service tei first all (told_in from owes service tei) events t [] steps w prompt still
 
     o_last : Observed
     o_last = seen c lengths late number ranged within service tei (events ++ events_of steps t)

@@ -14,15 +14,16 @@ is_its_expiry service tei other = false
 pub record IsLike (o q : Observed) : Type 0 where
   pub state : q.state ≡ o.state
   pub expiries : q.expiries ≡ o.expiries
+  pub owed : q.owed ≡ o.owed
 
 pub like-self : (o : Observed) → IsLike o o
-like-self o = record { state = refl; expiries = refl }
+like-self o = record { state = refl; expiries = refl; owed = refl }
 
 one-sent : (c : Config) (service : Service) (tei : ℕ) (o : Observed) (f : List ℕ) → IsLike o (by_frame_begun c service tei o f)
 one-sent c service tei o f = grind (arith, like-self)
 
 then-like : (o p q : Observed) → IsLike o p → IsLike p q → IsLike o q
-then-like o p q h i = record { state = i.state ∙ h.state; expiries = i.expiries ∙ h.expiries }
+then-like o p q h i = record { state = i.state ∙ h.state; expiries = i.expiries ∙ h.expiries; owed = i.owed ∙ h.owed }
 
 pub sent-like : (c : Config) (service : Service) (tei : ℕ) (o : Observed) (fs : List (List ℕ)) → IsLike o (fold (by_frame_begun c service tei) o fs)
 sent-like c service tei o [] = like-self o
@@ -38,7 +39,7 @@ module _ (c : Config) (service : Service) (tei : ℕ) (a : Answer) (o : Observed
   pub heard-stays : (e : stream.Event) → is_heard c service tei e ≡ false → by_heard c service tei e o ≡ o
   heard-stays e quiet = grind (arith, heard-same)
 
-  asked-like : (r : Request) → moves_link service tei r ≡ false → IsLike o (by_request service tei r o)
+  asked-like : (r : Request) → moves_link service tei r ≡ false → IsLike o (by_request c service tei r o)
   asked-like r quiet = grind (arith, like-self)
 
   pub calm : (what : Event) → is_stirred c service tei what ≡ false → is_its_expiry service tei what ≡ false → IsLike o (by_event c service tei what a o)

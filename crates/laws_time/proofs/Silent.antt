@@ -49,8 +49,11 @@ module _ (c : Config) (t200 late first all : ℕ) where
     sent e h = omega (arith, h, late_is)
 
 -- What is still owed to be told, in a state.
-abbrev pub owed : Service → ℕ → ℕ → List Note
-owed service tei state = cond (state == 4) [] (told_in state service tei)
+abbrev pub owed : Service → ℕ → Bool → ℕ → List Note
+owed service tei release state = cond (state == 4) [] (told_in state release service tei)
+
+abbrev pub owed_of : Service → ℕ → Observed → List Note
+owed_of service tei o = owed service tei o.owed o.state
 
 pub record IsPhase (o : Observed) : Type 0 where
   pub least : 4 ≤ o.state
@@ -80,7 +83,7 @@ module _ (c : Config) (service : Service) (tei : ℕ) (a : Answer) (timer : Time
   module _ (t200 late first all : ℕ) where
     pub record Leads (q : Observed) : Type 0 where
       pub phase : IsPhase q
-      pub told : owed service tei o.state ≡ notes_due c service tei o q (expiry timer) a ++ owed service tei q.state
+      pub told : owed_of service tei o ≡ notes_due c service tei o q (expiry timer) a ++ owed_of service tei q
       pub due : (now m : ℕ) → now ≤ m + late → Due200 c t200 late first all o.state o.expiries m → (nat_le 7 o.state ≡ true → first + whole c t200 late first all ≤ all) → runs T200 q ≡ true
           → Due200 c t200 late first all q.state q.expiries (now + t200)
       pub no_t203 : runs T203 q ≡ false
@@ -184,7 +187,7 @@ module _ (c : Config) (lengths : Lengths) (late number : ℕ) (ranged : IsInRang
     pub goes : Goes c lengths late number ranged within service tei events t
     pub on : is_on tei (view_of c service tei number events).teis ≡ true
     pub phase : IsPhase (o_of events)
-    pub told_is : told ++ owed service tei (o_of events).state ≡ whole_told
+    pub told_is : told ++ owed_of service tei (o_of events) ≡ whole_told
     pub wait : nat_le 7 (o_of events).state ≡ true → first + whole c lengths.t200 late first all ≤ all
     pub t200 : Has T200 events t.clock (D200 (o_of events))
     pub t203 : Has T203 events t.clock D203
@@ -211,9 +214,9 @@ module _ (c : Config) (lengths : Lengths) (late number : ℕ) (ranged : IsInRang
       goes = g;
       on = on-after;
       phase = subst IsPhase (sym r-is) (record { least = subst (λ n. 4 ≤ n) (sym like.state) w.phase.least; most = subst (λ n. n ≤ 8) (sym like.state) w.phase.most });
-      told_is = ap (λ ns. (told ++ ns) ++ owed service tei (o_of (events ++ at number what ∷ [])).state) (own-news c lengths late number ranged within service tei events u s what ∙ quiet)
-          ∙ ap (λ ns. ns ++ owed service tei (o_of (events ++ at number what ∷ [])).state) (append-nil told)
-          ∙ ap (λ (o : Observed). told ++ owed service tei o.state) r-is ∙ ap (λ n. told ++ owed service tei n) like.state ∙ w.told_is;
+      told_is = ap (λ ns. (told ++ ns) ++ owed_of service tei (o_of (events ++ at number what ∷ []))) (own-news c lengths late number ranged within service tei events u s what ∙ quiet)
+          ∙ ap (λ ns. ns ++ owed_of service tei (o_of (events ++ at number what ∷ []))) (append-nil told)
+          ∙ ap (λ (o : Observed). told ++ owed_of service tei o) r-is ∙ (λ i. told ++ owed service tei (like.owed i) (like.state i)) ∙ w.told_is;
       wait = λ up. w.wait (ap (nat_le 7) (sym like.state ∙ ap (λ (o : Observed). o.state) (sym r-is)) ∙ up);
       t200 = calm-200 events u s what like (none T200) h200 h203;
       t203 = calm-203 events u s what like (none T203) keeps h203;
@@ -255,14 +258,14 @@ module _ (c : Config) (lengths : Lengths) (late number : ℕ) (ranged : IsInRang
       news-are : news_in of_frames service tei number (Some (at number (expiry (timer_of service tei timer)))) u.card ≡ notes_due c service tei (o_of events) x (expiry (timer_of service tei timer)) (moment_of c events number (expiry (timer_of service tei timer))).answer
       news-are = own-news c lengths late number ranged within service tei events u s what ∙ ap (λ q. notes_due c service tei (o_of events) q what a) leads_to
 
-      pub waits-led : IsPhase x → owed service tei (o_of events).state ≡ notes_due c service tei (o_of events) x (expiry (timer_of service tei timer)) (moment_of c events number (expiry (timer_of service tei timer))).answer ++ owed service tei x.state
+      pub waits-led : IsPhase x → owed_of service tei (o_of events) ≡ notes_due c service tei (o_of events) x (expiry (timer_of service tei timer)) (moment_of c events number (expiry (timer_of service tei timer))).answer ++ owed_of service tei x
           → (runs T200 x ≡ true → D200 x (u.clock.now + lengths.t200)) → runs T203 x ≡ false → (nat_le 7 x.state ≡ true → nat_le 7 (o_of events).state ≡ true)
           → (runs T200 (o_of events) ≡ true → is_anew c service tei T200 (o_of events) (r_of (timer_of service tei timer)) (expiry (timer_of service tei timer)) ≡ true) → ResultOf (timer_of service tei timer)
       waits-led phase owes due_then none up anew = record {
         goes = g;
         on = on-after whole_told events t u told w s what on g;
         phase = subst IsPhase (sym now_is) phase;
-        told_is = grind (arith, append_assoc, news_in, of_frames, at, owed, news-are, notes_due, now_is);
+        told_is = grind (arith, append_assoc, news_in, of_frames, at, owed, owed_of, news-are, notes_due, now_is);
         wait = λ above. w.wait (up (ap (λ (o : Observed). nat_le 7 o.state) (sym now_is) ∙ above));
         t200 = step c lengths late number ranged within service tei events u s what T200 (λ m. ⊥) (D200 (o_of (events ++ at number (expiry (timer_of service tei timer)) ∷ [])))
             (λ run same. absurd (true≢false (sym (anew run) ∙ same)))
@@ -284,8 +287,8 @@ module _ (c : Config) (lengths : Lengths) (late number : ℕ) (ranged : IsInRang
     waits-203 on g run =
         let at_7 = never-both (o_of events) run in let d = w.t203 run in
         waits-led T203 (enquires 0 (o_of events)) (t203-leads c number ranged within service tei events s.all w.on ∙ ap (λ b. cond b (enquires 0 (o_of events)) (o_of events)) run) on g
-        (record { least = omega arith; most = omega arith }) (ap (owed service tei) at_7.0
-        ∙ sym (ap (λ ns. ns ++ owed service tei 8) (notes-none c service tei (moment_of c events number (expiry (timers.T203 service tei))).answer (timers.T203 service tei) (o_of events) (enquires 0 (o_of events)) w.phase.least (inr (at_7.0, refl)))))
+        (record { least = omega arith; most = omega arith }) (ap (owed service tei (o_of events).owed) at_7.0
+        ∙ sym (ap (λ ns. ns ++ owed service tei (o_of events).owed 8) (notes-none c service tei (moment_of c events number (expiry (timers.T203 service tei))).answer (timers.T203 service tei) (o_of events) (enquires 0 (o_of events)) w.phase.least (inr (at_7.0, refl)))))
         (λ run_now. enquiry-203 c lengths.t200 late first all u.clock.now d.0 (subst (λ n. n ≤ d.0 + late) (sym same_now) d.2) d.3) refl (λ up. ap (nat_le 7) at_7.0)
         (λ run_was. absurd (true≢false (sym run_was ∙ at_7.1)))
 

@@ -1,5 +1,5 @@
 -- Worked values: an answer is awaited exactly as long as it may be at most, and N200 is used up as soon as it may be. Each computes.
-use Rattle.std.specs.Prelude.{◌≡◌, ◌+◌, ◌*◌, List, [], ◌∷◌, Some, refl}
+use Rattle.std.specs.Prelude.{false, ◌≡◌, ◌+◌, ◌*◌, List, [], ◌∷◌, Some, refl}
 use Rattle.lapd_frame.specs.declared.services.Service.TheVariants.{Call}
 use Rattle.lapd_frame.specs.Reading.{reading, header_of, control_of, unnumbered_of, supervisory_of}
 use Rattle.lapd_frame.specs.Senders.{exchanged, reading as read_by}
@@ -54,7 +54,7 @@ in_4 = refl
 abbrev pub unheard : List (Step Event)
 unheard = happens (on_0 (Establish Call 64)) ∷ time 10 ∷ falls_due ∷ time 20 ∷ falls_due ∷ time 30 ∷ falls_due ∷ time 40 ∷ falls_due ∷ []
 
-told_g : news of_frames Call 64 0 unheard assigned ≡ given_up Call 64
+told_g : news of_frames Call 64 0 unheard assigned ≡ given_up false Call 64
 unfolding lines.after lines.answer lines.takes_slot exchanged read_by reading header_of control_of unnumbered_of supervisory_of teis.course teis.refusal seq distance_of named after_all news
 told_g = refl
 

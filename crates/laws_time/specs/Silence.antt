@@ -61,16 +61,17 @@ news w service tei number [] t = []
 news w service tei number (s ∷ steps) t =
     news_in w service tei number (event_of w.kind s t) t.card ++ news w service tei number steps (after w.kind s t)
 
--- In state 7 or 8 error I is told, and then error G and an indication of the release; in state 5 the latter; and in state 6 error H
--- and the confirm of the release (Q.921 clauses 5.5.1.3, 5.5.3.3 and 5.6.7).
-abbrev pub given_up : Service → ℕ → List Note
-given_up service tei = Error service tei G ∷ ReleaseIndication service tei ∷ []
+-- In state 7 or 8 error I is told, and then error G and an indication of the release; in state 5 the latter, or the confirm in place of
+-- the indication, if a release is owed; and in state 6 error H and the confirm of the release (Q.921 clauses 5.5.1.3, 5.5.3.3 and
+-- 5.6.7, and annex B).
+abbrev pub given_up : Bool → Service → ℕ → List Note
+given_up owed service tei = Error service tei G ∷ (if owed then ReleaseConfirm service tei else ReleaseIndication service tei) ∷ []
 
-abbrev pub told_in : ℕ → Service → ℕ → List Note
-told_in state service tei =
-    if state == 5 then given_up service tei
+abbrev pub told_in : ℕ → Bool → Service → ℕ → List Note
+told_in state owed service tei =
+    if state == 5 then given_up owed service tei
     else if state == 6 then Error service tei H ∷ ReleaseConfirm service tei ∷ []
-    else Error service tei I ∷ given_up service tei
+    else Error service tei I ∷ given_up false service tei
 
 -- How long this takes at most, if T200 and T203 run so long, a command goes so often, and timers fall due so late at most:
 -- first, in state 7, the timer that runs, which is T203, or T200 after an I-frame; then the answers that are awaited.
@@ -87,10 +88,10 @@ abbrev pub all_in : ℕ → ℕ → Config → Lengths → ℕ
 all_in state late c lengths = first_in state late c lengths + (if state == 7 || state == 8 then awaiting late c lengths else 0)
 
 -- At any time a beginning of that is told, and nothing else; the first of it once the first time is over, and all once the second is.
-pub record IsToldInTime (late state : ℕ) (c : Config) (lengths : Lengths) (service : Service) (tei : ℕ) (since now : ℕ) (told : List Note) : Type 0 where
-  pub front : IsFront told (told_in state service tei)
+pub record IsToldInTime (late state : ℕ) (owed : Bool) (c : Config) (lengths : Lengths) (service : Service) (tei : ℕ) (since now : ℕ) (told : List Note) : Type 0 where
+  pub front : IsFront told (told_in state owed service tei)
   pub first : since + first_in state late c lengths < now → 1 ≤ length told
-  pub all : since + all_in state late c lengths < now → told ≡ told_in state service tei
+  pub all : since + all_in state late c lengths < now → told ≡ told_in state owed service tei
 
 -- So it is at a card of either kind, from its start on, whatever happened before.
 abbrev pub ADeadLineIsTold : {Card Event : Type 0} → Watched Card Event → Type 0
@@ -98,4 +99,4 @@ ADeadLineIsTold {Card} {Event} w =
     (service : Service) (c : Config) (lengths : Lengths) (late number tei from : ℕ) (before steps : List (Step Event)) → IsInRange c → number < c.lines →
     5 ≤ from → let begun = fresh w c lengths in let t = after_all w.kind before begun in let u = after_all w.kind steps t in
     ArePrompt w.kind late before begun → ArePrompt w.kind late steps t → w.state number service tei t.card ≡ Some from →
-    AreStill w c service tei number steps t → IsToldInTime late from c lengths service tei t.clock.now u.clock.now (news w service tei number steps t)
+    AreStill w c service tei number steps t → IsToldInTime late from (w.owed number service tei t.card) c lengths service tei t.clock.now u.clock.now (news w service tei number steps t)

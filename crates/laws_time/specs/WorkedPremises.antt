@@ -1,5 +1,5 @@
 -- Worked values: what becomes of a dead line without a premise of `Silence`. Each computes.
-use Rattle.std.specs.Prelude.{◌≡◌, List, [], ◌∷◌, refl}
+use Rattle.std.specs.Prelude.{false, ◌≡◌, List, [], ◌∷◌, refl}
 use Rattle.std.proofs.Common.{arith}
 use Rattle.std.proofs.lemmas.List.Elements.{All-head}
 use Rattle.lapd_clock.specs.Timers.{Expiry}
@@ -22,7 +22,7 @@ use Rattle.laws_time.specs.Silence.{news, IsToldInTime}
 use Rattle.laws_time.specs.WorkedSilence.{lengths, begun}
 
 -- From state 7 at moment 0 error I is to be told once 100 is over.
-nothing_is_late : IsToldInTime 0 7 usual lengths Call 64 0 101 [] → ⊥
+nothing_is_late : IsToldInTime 0 7 false usual lengths Call 64 0 101 [] → ⊥
 nothing_is_late told = omega (arith, told.first (omega arith))
 
 -- RR is heard at 40: T203 runs anew, up to 90, and nothing is told at 101.

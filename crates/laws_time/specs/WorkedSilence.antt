@@ -1,5 +1,5 @@
 -- Worked values: a line goes dead, and layer 3 is told. Each computes.
-use Rattle.std.specs.Prelude.{◌≡◌, List, [], ◌∷◌, ◌++◌, Some, refl}
+use Rattle.std.specs.Prelude.{false, ◌≡◌, List, [], ◌∷◌, ◌++◌, Some, refl}
 use Rattle.std.proofs.Common.{arith}
 use Rattle.lapd_frame.specs.declared.notes.Note.TheVariants.{Error}
 use Rattle.lapd_frame.specs.declared.notes.ErrorCode.TheVariants.{I}
@@ -49,7 +49,7 @@ told_i : news of_frames Call 64 0 until_i begun ≡ Error Call 64 I ∷ []
 unfolding lines.after lines.answer lines.takes_slot exchanged read_by reading header_of control_of unnumbered_of supervisory_of teis.course teis.refusal seq distance_of named after_all news
 told_i = refl
 
-told_g : news of_frames Call 64 0 until_g begun ≡ told_in 7 Call 64
+told_g : news of_frames Call 64 0 until_g begun ≡ told_in 7 false Call 64
 unfolding lines.after lines.answer lines.takes_slot exchanged read_by reading header_of control_of unnumbered_of supervisory_of teis.course teis.refusal seq distance_of named after_all news
 told_g = refl
 

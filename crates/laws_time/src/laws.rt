@@ -21,7 +21,7 @@ ghost use Rattle.laws_time.specs.Watched.{of_frames, of_octets};
 /// 5.6.7):
 ///
 /// - from state 7 or 8 error I, error G and the indication of the release;
-/// - from 5 the last two;
+/// - from 5 the last two, or the confirm of the release in place of its indication, if a release is owed (annex B);
 /// - from 6 error H and the confirm of the release.
 ///
 /// The first of these is told once (N200 + 1) (T200 + late) are over, and from state 7 T203 + late + T200 + late more.

@@ -5,8 +5,9 @@ use Rattle.model_teis.specs.declared.terminal.procedure.Procedure.TheVariants.{A
 use Rattle.model_line.specs.Event.{Event, request}
 use Rattle.model_line.specs.Request.{Request, AskTei, Down}
 use Rattle.laws_trace.specs.AskingEnds.{is_result, is_t202}
-use Rattle.laws_trace.specs.ManagingTerminal.{OfTerminal, verified, responds, by_assigned, by_denied, by_check, by_remove, by_message, by_frame, by_request, by_event, grants, is_verified, is_free, named, over, removed, leaves, ran_out, asks, verifies}
-use Rattle.laws_trace.proofs.Vocabulary.{arith}
+use Rattle.laws_trace.specs.ManagingTerminal.{OfTerminal, verified, responds, by_assigned, by_denied, by_check, by_remove, by_five, by_message, by_frame, by_request, by_event, grants, is_verified, is_free, named, over, removed, leaves, ran_out, asks, verifies}
+use Rattle.laws_trace.proofs.Vocabulary.{arith, take}
+use Rattle.lapd_frame.specs.Readings.{by_reading}
 
 -- The attempts of the asking that runs.
 abbrev pub asking_of : Option Procedure → Option ℕ
@@ -80,8 +81,8 @@ module _ (t : OfTerminal) (quiet : t.notes ≡ []) where
   of-same : (u : OfTerminal) → IsSame t u → Goes o u
   of-same u h = inl (ap (λ ns. length (filter is_result ns)) (h.notes ∙ quiet), h.asking)
 
-  assigned : (ri tei : ℕ) (p : Option Procedure) → t.procedure ≡ p → Goes (asking_of p) (then_ (by_assigned ri tei p t))
-  assigned ri tei p is = grind (arith, verifies, none-told, nat_le, is_free, over)
+  assigned : (c : Config) (ri tei : ℕ) (p : Option Procedure) → t.procedure ≡ p → Goes (asking_of p) (then_ (by_assigned c ri tei p t))
+  assigned c ri tei p is = grind (arith, verifies, none-told, nat_le, is_free, over)
 
   denied : (ri : ℕ) (p : Option Procedure) → t.procedure ≡ p → Goes (asking_of p) (then_ (by_denied ri p t))
   denied ri p is = grind (arith, none-told)
@@ -98,18 +99,21 @@ module _ (t : OfTerminal) (quiet : t.notes ≡ []) where
   either : (b : Bool) (x y : Option OfTerminal) → Goes o (then_ x) → Goes o (then_ y) → Goes o (then_ (cond b x y))
   either b x y h j = grind arith
 
-  message : (info : List ℕ) → Goes o (then_ (by_message info t))
-  message (entity ∷ high ∷ low ∷ type ∷ last ∷ []) =
+  five : (c : Config) (info : List ℕ) → Goes o (then_ (by_five c info t))
+  five c (entity ∷ high ∷ low ∷ type ∷ last ∷ []) =
       either (not (entity == 0x0F && last % 2 == 1)) _ _ nothing
-      (either (type == 2) _ _ (assigned (256 * high + low) (last / 2) t.procedure refl)
+      (either (type == 2) _ _ (assigned c (256 * high + low) (last / 2) t.procedure refl)
       (either (type == 3 && last / 2 == 127) _ _ (denied (256 * high + low) t.procedure refl)
       (either (type == 4) _ _ (checked (named (last / 2) t)) (either (type == 6) _ _ (removes (named (last / 2) t)) nothing))))
-  message [] = nothing
-  message (a ∷ []) = nothing
-  message (a ∷ b ∷ []) = nothing
-  message (a ∷ b ∷ d ∷ []) = nothing
-  message (a ∷ b ∷ d ∷ e ∷ []) = nothing
-  message (a ∷ b ∷ d ∷ e ∷ f ∷ g ∷ more) = nothing
+  five c [] = nothing
+  five c (a ∷ []) = nothing
+  five c (a ∷ b ∷ []) = nothing
+  five c (a ∷ b ∷ d ∷ []) = nothing
+  five c (a ∷ b ∷ d ∷ e ∷ []) = nothing
+  five c (a ∷ b ∷ d ∷ e ∷ f ∷ g ∷ more) = nothing
+
+  message : (c : Config) (info : List ℕ) → Goes o (then_ (by_message c info t))
+  message c info = five c (by_reading c.reading info (take 5 info))
 
   frame : (c : Config) (f : Option Parts) → Goes o (then_ (option_and_then (by_frame c t) f))
   frame c f = grind (arith, nothing, either, message)

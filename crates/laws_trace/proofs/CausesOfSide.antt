@@ -1,9 +1,9 @@
 -- Which causes TEI management of the side names: those that its observer has it name.
-use Rattle.laws_trace.proofs.Vocabulary.{◌≡◌, ℕ, ◌+◌, ◌*◌, ◌/◌, ◌%◌, ◌==◌, ◌&&◌, Bool, true, false, cond, cond_both, List, [], ◌∷◌, Option, Some, None, refl, sym, ap, ◌∙◌, arith, is_some, option_map_or}
+use Rattle.laws_trace.proofs.Vocabulary.{◌≡◌, ℕ, ◌+◌, ◌*◌, ◌/◌, ◌≤◌, ◌==◌, ◌&&◌, Bool, true, false, cond, cond_both, List, [], ◌∷◌, Option, Some, None, refl, sym, ap, ◌∙◌, arith, is_some, option_map_or}
 use Rattle.laws_trace.proofs.Vocabulary.{Config, Line, at_management, at_no_link, of_aim}
 use Rattle.laws_trace.proofs.Vocabulary.{Aim, IsSound as IsSoundLine, at}
 use Rattle.laws_trace.proofs.Vocabulary.{Managed, Management, Change, of_change, not, tei_begun, tei_told, tei_message, TeiEvent}
-use Rattle.laws_trace.proofs.Vocabulary.{true≢false, tei_step, tei_unless_refused, heard_of_type, Check, Checked, Doubled, Places, list_any, length, nat_le, eq-eqb, subst, owes, TeiCourse as Course}
+use Rattle.laws_trace.proofs.Vocabulary.{true≢false, tei_step, tei_unless_refused, heard_of_type, Check, Checked, Doubled, Places, list_any, length, nat_le, nat_lt, take, eq-eqb, subst, owes, TeiCourse as Course}
 use Rattle.laws_trace.proofs.Vocabulary.{tei_course, tei_refusal, no_room, lose_one}
 use Rattle.model_teis.specs.network.Rows as rows
 use Rattle.lapd_frame.specs.declared.refusals.Refusal.{Refusal}
@@ -20,16 +20,18 @@ use Rattle.lapd_frame.specs.declared.timers.Order.{Order}
 use Rattle.lapd_frame.specs.Readings.{by_reading}
 use Rattle.model_teis.specs.declared.network.messages.Message.TheVariants.{IdentityDenied, IdentityRemove}
 use Rattle.model_teis.specs.network.Machine.{next_checked}
-use Rattle.model_teis.specs.network.Messages.{is_extended}
+use Rattle.model_teis.specs.declared.network.heard.Heard.TheVariants.{IdentityCheckResponse, IdentityVerify}
+use Rattle.model_teis.specs.network.Messages.{heard_in, is_last, responses_in, up_to}
 use Rattle.model_teis.specs.network.Words.{check_is, end_check, note, send, unserved}
-use Rattle.laws_trace.specs.Managing.{asks, is_given, own_of, several, verified}
+use Rattle.laws_trace.specs.Managing.{asks, by_type, is_given, is_one, named_by, own_of, several, verified}
 use Rattle.laws_trace.specs.ManagingTerminal as seen
 use Rattle.laws_trace.proofs.CheckEnds.{as_seen, seen_check}
-use Rattle.laws_trace.proofs.ManagingReads.{by-both, ends-so, given-same, in-both, one-by-one, one-response, otherwise, seen_of}
+use Rattle.laws_trace.proofs.ManagingReads.{by-both, few-heard, few-named, given-same, heard-is, in-both, one-by-one}
 use Rattle.laws_trace.proofs.Known.{Knows}
 use Rattle.laws_trace.proofs.ManagingTables.{AreOn}
 use Rattle.laws_trace.proofs.TerminalTables.{IsOnce}
 use Rattle.laws_trace.proofs.ServedByTerminal.{own-serves, others-served, is_message as is_own_message}
+use Rattle.std.specs.List.{position}
 use Rattle.std.specs.Option.{option_and_then}
 use Rattle.laws_trace.proofs.Vocabulary.{message_served, responded, checks, option_map}
 
@@ -102,30 +104,62 @@ module _ (on : List ℕ) (places : Places) (later : List ℕ) (m : Management) (
         by-both (λ d f. Serving d (f (tei_begun m))) (list_any (λ octet. octet / 2 == check.tei) octets) (responded check.tei w (seen_check check)) None (rows.count check.tei (rows.counted check)) unserved
         (counts check.tei (rows.counted check) ∙ sym (ap not (some-responded check.tei (seen_check check) ∙ eq-eqb check.tei check.tei refl))) refl
 
-    severals : (octets : List ℕ) (a b : Bool)
-        → Serving (cond (a && b) (by_reading c.reading None (several w octets)) None)
-        (by_reading m.reading (unserved (tei_begun m)) (rows.respond_among (cond (a && b && nat_le 2 (length octets) && nat_le (length octets) 64 && is_extended octets) (Some octets) None) m.check (tei_begun m)))
-    severals octets a b = grind (arith, in-both, unserved, nat_le, ends-so, responded, for-several, none-among, not-several)
+    severals : (octets : List ℕ) (b : Bool)
+        → Serving (cond b (by_reading c.reading None (several w octets)) None)
+        (by_reading m.reading (unserved (tei_begun m)) (rows.respond_among (cond b (up_to octets (position is_last octets)) None) m.check (tei_begun m)))
+    severals octets false = not-several
+    severals octets true =
+        in-both Serving m.reading c.reading read None (several w octets) (unserved (tei_begun m)) (rows.respond_among (up_to octets (position is_last octets)) m.check (tei_begun m)) refl
+        (up-to (position is_last octets))
+      where
+        up-to : (o : Option ℕ)
+            → Serving (option_and_then (λ place. cond (nat_lt place 64) (named_by w (take (place + 1) octets)) None) o) (rows.respond_among (up_to octets o) m.check (tei_begun m))
+        up-to None = none-among m.check
+        up-to (Some place) =
+            by-both (λ d teis. Serving d (rows.respond_among teis m.check (tei_begun m))) (nat_lt place 64) _ _ _ _ (for-several (take (place + 1) octets) m.check) (none-among m.check)
 
-    by-type : (type ri action : ℕ) → Serving (seen_of c type ri action w) (rows.serve (heard_of_type type ri action) None (tei_begun m))
-    by-type type ri action =
-        subst (λ d. Serving d (rows.serve (heard_of_type type ri action) None (tei_begun m))) (sym (one-by-one c type ri action w))
-        (by-both (λ d o. Serving d (rows.serve o None (tei_begun m))) (type == 1 && action == 127) _ _ _ _ (asks-any ri)
-        (by-both (λ d o. Serving d (rows.serve o None (tei_begun m))) (type == 1 && nat_le 64 action && nat_le action 126) _ _ _ _ (asks-own ri action)
-        (by-both (λ d o. Serving d (rows.serve o None (tei_begun m))) (type == 5) _ _ _ _ (responds action m.check)
-        (by-both (λ d o. Serving d (rows.serve o None (tei_begun m))) (type == 7) _ _ _ _ (verifies action) not-several))))
+    -- Of a check response the list of Ai is not looked at then.
+    by-type : (type ri action : ℕ) (teis : Option (List ℕ)) → (type == 5 ≡ false → teis ≡ None) → Serving (by_type c w type ri action) (rows.serve (heard_of_type type ri action) teis (tei_begun m))
+    by-type type ri action teis none =
+        subst (λ d. Serving d (rows.serve (heard_of_type type ri action) teis (tei_begun m))) (sym (one-by-one c type ri action w))
+        (by-both (λ d o. Serving d (rows.serve o teis (tei_begun m))) (type == 1 && action == 127) _ _ _ _ (asks-any ri)
+        (by-both (λ d o. Serving d (rows.serve o teis (tei_begun m))) (type == 1 && nat_le 64 action && nat_le action 126) _ _ _ _ (asks-own ri action) (go (type == 5) refl)))
+      where
+        go : (b : Bool) → (type == 5) ≡ b
+            → Serving (cond b (option_and_then (responded action w) w.check) (cond (type == 7) (verified c action w) None))
+            (rows.serve (cond b (Some (IdentityCheckResponse action)) (cond (type == 7) (Some (IdentityVerify action)) None)) teis (tei_begun m))
+        go true is = responds action m.check
+        go false is =
+            by-both (λ d o. Serving d (rows.serve o teis (tei_begun m))) (type == 7) _ _ _ _ (verifies action)
+            (subst (λ teis. Serving None (rows.serve None teis (tei_begun m))) (sym (none is)) not-several)
+
+    few-serves : (info : List ℕ) → length info ≤ 4 → Serving None (rows.hear info (tei_begun m))
+    few-serves info few =
+        subst (λ o. Serving None (rows.serve o (responses_in info) (tei_begun m))) (sym (few-heard m.reading info few))
+        (subst (λ teis. Serving None (rows.serve None teis (tei_begun m))) (sym (few-named info few)) not-several)
 
     message-serves : (info : List ℕ) → Serving (message_served c w info) (rows.hear info (tei_begun m))
-    message-serves (a ∷ high ∷ low ∷ type ∷ last ∷ []) =
-        let seen = seen_of c type (256 * high + low) (last / 2) w in
-        subst (λ teis. Serving (cond (not (a == 0x0F && last % 2 == 1)) None seen) (rows.serve (cond (a == 0x0F && last % 2 == 1) (heard_of_type type (256 * high + low) (last / 2)) None) teis (tei_begun m))) (sym (ap (λ b. cond b (Some (last ∷ [])) None) (one-response a type last)))
-        (otherwise (λ d o. Serving d (rows.serve o None (tei_begun m))) (a == 0x0F && last % 2 == 1) seen None (heard_of_type type (256 * high + low) (last / 2)) None (by-type type (256 * high + low) (last / 2)) not-several)
-    message-serves (a ∷ high ∷ low ∷ type ∷ last ∷ sixth ∷ more) = severals (last ∷ sixth ∷ more) (a == 0x0F) (type == 5)
-    message-serves (a ∷ high ∷ low ∷ type ∷ []) = severals [] (a == 0x0F) (type == 5)
-    message-serves (a ∷ high ∷ low ∷ []) = not-several
-    message-serves (a ∷ high ∷ []) = not-several
-    message-serves (a ∷ []) = not-several
-    message-serves [] = not-several
+    message-serves (a ∷ high ∷ low ∷ type ∷ action ∷ more) =
+        subst (λ o. Serving (message_served c w info) (rows.serve o (responses_in info) (tei_begun m))) (sym (ap (λ r. heard_in r info) read ∙ heard-is c a high low type action more))
+        (go (a == 0x0F) (is_one c action more))
+      where
+        info : List ℕ
+        info = a ∷ high ∷ low ∷ type ∷ action ∷ more
+
+        teis : Option (List ℕ)
+        teis = up_to (action ∷ more) (position is_last (action ∷ more))
+
+        go : (x y : Bool)
+            → Serving (cond (not x) None (cond y (by_type c w type (256 * high + low) (action / 2)) (cond (type == 5) (by_reading c.reading None (several w (action ∷ more))) None)))
+            (rows.serve (cond (x && y) (heard_of_type type (256 * high + low) (action / 2)) None) (cond (x && type == 5) teis None) (tei_begun m))
+        go false y = not-several
+        go true true = by-type type (256 * high + low) (action / 2) (cond (type == 5) teis None) (λ other. ap (λ b. cond b teis None) other)
+        go true false = severals (action ∷ more) (type == 5)
+    message-serves (a ∷ high ∷ low ∷ type ∷ []) = few-serves (a ∷ high ∷ low ∷ type ∷ []) (omega arith)
+    message-serves (a ∷ high ∷ low ∷ []) = few-serves (a ∷ high ∷ low ∷ []) (omega arith)
+    message-serves (a ∷ high ∷ []) = few-serves (a ∷ high ∷ []) (omega arith)
+    message-serves (a ∷ []) = few-serves (a ∷ []) (omega arith)
+    message-serves [] = few-serves [] (omega arith)
 
 -- A request of management, the expiry of T201, and that the line is down, are served.
 abbrev is_message : TeiEvent → Bool
@@ -196,8 +230,8 @@ serves-known c l w s knows info =
 
     go : (b : Bool) → is_terminal c ≡ b
         → cond b (terminal_told (terminals.message info) (terminal_in l)).unserved (tei_told (tei_message info) l.management).unserved
-        ≡ not (cond b (is_some (seen.by_message info (own_of c w))) (is_some (message_served c w info)))
-    go true is = own-serves (terminal_in l) once info ∙ ap (λ t. not (is_some (seen.by_message info t))) (sym (knows.terminal is))
+        ≡ not (cond b (is_some (seen.by_message c info (own_of c w))) (is_some (message_served c w info)))
+    go true is = own-serves c (terminal_in l) s.reading once info ∙ ap (λ t. not (is_some (seen.by_message c info t))) (sym (knows.terminal is))
     go false net =
         message-serves w.on w.places w.later l.management knows.on w.notes w.orders w.lost w.begins w.granted c s.reading info
         ∙ sym (ap (λ (v : Managed). not (is_some (message_served c (record v { notes = w.notes; orders = w.orders; lost = w.lost; begins = w.begins; granted = w.granted }) info))) (knows.network net))

@@ -11,12 +11,12 @@ abbrev Still : State → State → Type 0
 Still s to = (moves s to || false) ≡ true → enquires to ≡ true → ⊥
 
 -- A frame, by the state.
-in-4 : (r : Reading) (command : Bool) (control : Control) → Still TeiAssigned (by_frame r TeiAssigned command control)
-in-4 r command control m h = grind arith
+in-4 : (r : Reading) (owed command : Bool) (control : Control) → Still TeiAssigned (by_frame r owed TeiAssigned command control)
+in-4 r owed command control m h = grind arith
 
 -- An N(R) that is invalid leads to state 5.
-by-state : (r : Reading) (s : State) (command : Bool) (control : Control) → Still s (by_frame r s command control)
-by-state r s command control = grind (arith, in-4)
+by-state : (r : Reading) (owed : Bool) (s : State) (command : Bool) (control : Control) → Still s (by_frame r owed s command control)
+by-state r owed s command control = grind (arith, in-4)
 
 -- What the grammar does not have.
 malformed : (s : State) → Still s (cond (is_multiple_frame s && true) AwaitingEstablishment s)

@@ -1,5 +1,6 @@
 -- What the observer of a line knows of its TEIs is what TEI management has, and what is due by an event is what that tells.
-use Rattle.laws_trace.proofs.Vocabulary.{◌≡◌, ℕ, zero, suc, ◌≤◌, ◌+◌, ◌-◌, ◌*◌, ◌/◌, ◌%◌, ◌==◌, ◌&&◌, ◌||◌, Bool, true, false, true≢false, cond, not, List, [], ◌∷◌, length, drop, list_any, nat_le, ◌++◌, length-append, Option, Some, None, IfSome, option_map, option_map_or, refl, sym, ap, ◌∙◌, subst, arith, eq-eqb, nat_lt, find, range_with_len, Note, Places, place_of, Management, Remembered, Period}
+use Rattle.laws_trace.proofs.Vocabulary.{◌≡◌, ℕ, zero, suc, ◌≤◌, ◌+◌, ◌-◌, ◌*◌, ◌/◌, ◌==◌, ◌&&◌, ◌||◌, Bool, true, false, true≢false, cond, not, List, [], ◌∷◌, length, take, drop}
+use Rattle.laws_trace.proofs.Vocabulary.{list_any, nat_le, ◌++◌, length-append, Option, Some, None, IfSome, option_map, option_map_or, refl, sym, ap, ◌∙◌, subst, arith, eq-eqb, nat_lt, find, range_with_len, Note, Places, place_of, Management, Remembered, Period}
 use Rattle.laws_trace.proofs.Vocabulary.{First, Second, Settling, Message}
 use Rattle.laws_trace.proofs.Vocabulary.{IdentityAssigned}
 use Rattle.laws_trace.proofs.Vocabulary.{IdentityDenied, IdentityRemove, heard_of_type, IsSoundCheck, free_place, free_tei-is, Config, eqb-true, ltb-true, ltb-false, Removed, Doubled, Check, TeiCourse as Course, tei_begun as begun, Checked, Managed, owes, gives, leaves, over, checks, responded, ran_out, managing_is_on as is_on}
@@ -7,18 +8,20 @@ use Rattle.laws_trace.proofs.Vocabulary.{begin_check, end_check, leave, lose_one
 use Rattle.model_teis.specs.network.Rows as rows
 use Rattle.lapd_frame.specs.Readings.{by_reading}
 use Rattle.model_teis.specs.declared.network.messages.Message.TheVariants.{IdentityCheckRequest}
-use Rattle.model_teis.specs.network.Messages.{is_extended}
+use Rattle.model_teis.specs.declared.network.heard.Heard.TheVariants.{IdentityCheckResponse, IdentityVerify}
+use Rattle.model_teis.specs.network.Messages.{heard_in, is_last, responses_in, up_to}
 use Rattle.model_teis.specs.network.Sound.{IsSound}
 use Rattle.model_teis.specs.Steps.{nothing_happens}
 use Rattle.model_teis.specs.network.Words.{check_is, check_is_due, join, note, due_at}
 use Rattle.model_teis.specs.Table as table
-use Rattle.laws_trace.specs.Managing.{asks, comes, defers, is_asked, is_given, removes, several, verified}
+use Rattle.laws_trace.specs.Managing.{asks, by_type, comes, defers, is_asked, is_given, is_one, named_by, removes, several, verified}
 use Rattle.laws_trace.specs.ManagingTerminal.{with_tei}
 use Rattle.laws_trace.proofs.ManagingNotes.{by_message}
 use Rattle.laws_trace.proofs.ManagingPlaces.{ArePlaced, came-placed, later-placed}
 use Rattle.laws_trace.proofs.ManagingTables.{AreOn, free-fewer, none-free, comes-on}
+use Rattle.std.specs.List.{position}
 use Rattle.std.specs.Option.{option_and_then, unwrap_or}
-use Rattle.laws_trace.proofs.ManagingReads.{any-same, by-both, ends_once, ends-so, in-both, one-by-one, one-response, otherwise, seen_of}
+use Rattle.laws_trace.proofs.ManagingReads.{any-same, by-both, few-heard, few-named, heard-is, in-both, one-by-one}
 use Rattle.laws_trace.proofs.CheckEnds.{Follows, InOrder, Known, Leads, as_seen, earlier, is_second, is_settling, known-leads, leaves-noted, leaving-led, leaving-own, led, noted, over-leads, seen_check}
 
 find-same : (f g : ℕ → Bool) → ((x : ℕ) → f x ≡ g x) → (xs : List ℕ) → find f xs ≡ find g xs
@@ -262,9 +265,6 @@ module _ (on : List ℕ) (places : Places) (later : List ℕ) (m : Management) (
     not-several : Serves None (by_reading m.reading (unserved (begun m)) (rows.respond_among None m.check (begun m)))
     not-several = grind (arith, unserved, none-due, none-several)
 
-    ends-same : (octets : List ℕ) → ends_once octets ≡ is_extended octets
-    ends-same octets = ends-so octets
-
     by-several : (octets : List ℕ) (o : Option Check) → m.check ≡ o
         → Serves (option_and_then (λ (check : Checked). cond (list_any (λ octet. octet / 2 == check.tei) octets) (responded check.tei w check) None) (option_map seen_check o)) (rows.respond_among (Some octets) o (begun m))
     by-several octets None is = none-due
@@ -273,40 +273,63 @@ module _ (on : List ℕ) (places : Places) (later : List ℕ) (m : Management) (
         (subst (λ b. Serves (responded own.tei w (seen_check own)) ((cond b (rows.count own.tei (rows.counted own)) unserved) (begun m))) (eq-eqb own.tei own.tei refl) (responds-so own.tei own is))
         none-due
 
-    several-leads : (a b : Bool) (octets : List ℕ)
-        → Serves (cond (a && b) (by_reading c.reading None (several w octets)) None)
-        (by_reading m.reading (unserved (begun m)) (rows.respond_among (cond (a && b && nat_le 2 (length octets) && nat_le (length octets) 64 && is_extended octets) (Some octets) None) m.check (begun m)))
-    several-leads false b octets = not-several
-    several-leads true false octets = not-several
-    several-leads true true octets =
-        in-both Serves m.reading c.reading read None (several w octets) (unserved (begun m)) (among (cond (nat_le 2 (length octets) && nat_le (length octets) 64 && is_extended octets) (Some octets) None)) none-due
-        (subst (λ e. Serves (cond (not (nat_le 2 (length octets) && nat_le (length octets) 64 && e)) None named) (among (cond (nat_le 2 (length octets) && nat_le (length octets) 64 && is_extended octets) (Some octets) None))) (sym (ends-same octets))
-        (otherwise (λ d o. Serves d (among o)) (nat_le 2 (length octets) && nat_le (length octets) 64 && is_extended octets) named None (Some octets) None (by-several octets m.check refl)
-        (subst (λ x. Serves None x) (sym (none-several None m.check refl)) none-due)))
+    none-among : Serves None (rows.respond_among None m.check (begun m))
+    none-among = subst (λ x. Serves None x) (sym (none-several None m.check refl)) none-due
+
+    several-leads : (octets : List ℕ) (b : Bool)
+        → Serves (cond b (by_reading c.reading None (several w octets)) None)
+        (by_reading m.reading (unserved (begun m)) (rows.respond_among (cond b (up_to octets (position is_last octets)) None) m.check (begun m)))
+    several-leads octets false = not-several
+    several-leads octets true =
+        in-both Serves m.reading c.reading read None (several w octets) (unserved (begun m)) (rows.respond_among (up_to octets (position is_last octets)) m.check (begun m)) none-due
+        (up-to (position is_last octets))
       where
-        among : Option (List ℕ) → Course
-        among teis = rows.respond_among teis m.check (begun m)
+        up-to : (o : Option ℕ)
+            → Serves (option_and_then (λ place. cond (nat_lt place 64) (named_by w (take (place + 1) octets)) None) o) (rows.respond_among (up_to octets o) m.check (begun m))
+        up-to None = none-among
+        up-to (Some place) =
+            by-both (λ d teis. Serves d (rows.respond_among teis m.check (begun m))) (nat_lt place 64) _ _ _ _ (by-several (take (place + 1) octets) m.check refl) none-among
 
-        named : Option Managed
-        named = option_and_then (λ (check : Checked). cond (list_any (λ octet. octet / 2 == check.tei) octets) (responded check.tei w check) None) w.check
+    -- What a terminal says with one Ai. Of a check response the list of Ai is not looked at then.
+    by-type-leads : (type ri action : ℕ) (teis : Option (List ℕ)) → (type == 5 ≡ false → teis ≡ None) → Serves (by_type c w type ri action) (rows.serve (heard_of_type type ri action) teis (begun m))
+    by-type-leads type ri action teis none =
+        subst (λ d. Serves d (rows.serve (heard_of_type type ri action) teis (begun m))) (sym (one-by-one c type ri action w))
+        (by-both (λ d o. Serves d (rows.serve o teis (begun m))) (type == 1 && action == 127) _ _ _ _ (request-leads ri)
+        (by-both (λ d o. Serves d (rows.serve o teis (begun m))) (type == 1 && nat_le 64 action && nat_le action 126) _ _ _ _ (denied-leads ri action) (go (type == 5) refl)))
+      where
+        go : (b : Bool) → (type == 5) ≡ b
+            → Serves (cond b (option_and_then (responded action w) w.check) (cond (type == 7) (verified c action w) None))
+            (rows.serve (cond b (Some (IdentityCheckResponse action)) (cond (type == 7) (Some (IdentityVerify action)) None)) teis (begun m))
+        go true is = responds-leads action
+        go false is =
+            by-both (λ d o. Serves d (rows.serve o teis (begun m))) (type == 7) _ _ _ _ (verify-leads action)
+            (subst (λ teis. Serves None (rows.serve None teis (begun m))) (sym (none is)) not-several)
 
-    -- What a terminal says.
-    by-type-leads : (type ri action : ℕ) → Serves (seen_of c type ri action w) (rows.serve (heard_of_type type ri action) None (begun m))
-    by-type-leads type ri action =
-        subst (λ d. Serves d (rows.serve (heard_of_type type ri action) None (begun m))) (sym (one-by-one c type ri action w))
-        (by-both (λ d o. Serves d (rows.serve o None (begun m))) (type == 1 && action == 127) _ _ _ _ (request-leads ri)
-        (by-both (λ d o. Serves d (rows.serve o None (begun m))) (type == 1 && nat_le 64 action && nat_le action 126) _ _ _ _ (denied-leads ri action)
-        (by-both (λ d o. Serves d (rows.serve o None (begun m))) (type == 5) _ _ _ _ (responds-leads action)
-        (by-both (λ d o. Serves d (rows.serve o None (begun m))) (type == 7) _ _ _ _ (verify-leads action) not-several))))
+    -- What it says.
+    few-leads : (info : List ℕ) → length info ≤ 4 → Serves None (rows.hear info (begun m))
+    few-leads info few =
+        subst (λ o. Serves None (rows.serve o (responses_in info) (begun m))) (sym (few-heard m.reading info few))
+        (subst (λ teis. Serves None (rows.serve None teis (begun m))) (sym (few-named info few)) not-several)
 
     pub serve-leads : (info : List ℕ) → Leads (by_message c w info) (rows.hear info (begun m))
-    serve-leads (a ∷ high ∷ low ∷ type ∷ last ∷ []) =
-        let seen = seen_of c type (256 * high + low) (last / 2) w in
-        subst (λ teis. Serves (cond (not (a == 0x0F && last % 2 == 1)) None seen) (rows.serve (cond (a == 0x0F && last % 2 == 1) (heard_of_type type (256 * high + low) (last / 2)) None) teis (begun m))) (sym (ap (λ b. cond b (Some (last ∷ [])) None) (one-response a type last)))
-        (otherwise (λ d o. Serves d (rows.serve o None (begun m))) (a == 0x0F && last % 2 == 1) seen None (heard_of_type type (256 * high + low) (last / 2)) None (by-type-leads type (256 * high + low) (last / 2)) not-several)
-    serve-leads (a ∷ high ∷ low ∷ type ∷ last ∷ sixth ∷ more) = several-leads (a == 0x0F) (type == 5) (last ∷ sixth ∷ more)
-    serve-leads (a ∷ high ∷ low ∷ type ∷ []) = several-leads (a == 0x0F) (type == 5) []
-    serve-leads (a ∷ high ∷ low ∷ []) = not-several
-    serve-leads (a ∷ high ∷ []) = not-several
-    serve-leads (a ∷ []) = not-several
-    serve-leads [] = not-several
+    serve-leads (a ∷ high ∷ low ∷ type ∷ action ∷ more) =
+        subst (λ o. Leads (by_message c w info) (rows.serve o (responses_in info) (begun m))) (sym (ap (λ r. heard_in r info) read ∙ heard-is c a high low type action more))
+        (go (a == 0x0F) (is_one c action more))
+      where
+        info : List ℕ
+        info = a ∷ high ∷ low ∷ type ∷ action ∷ more
+
+        teis : Option (List ℕ)
+        teis = up_to (action ∷ more) (position is_last (action ∷ more))
+
+        go : (x y : Bool)
+            → Serves (cond (not x) None (cond y (by_type c w type (256 * high + low) (action / 2)) (cond (type == 5) (by_reading c.reading None (several w (action ∷ more))) None)))
+            (rows.serve (cond (x && y) (heard_of_type type (256 * high + low) (action / 2)) None) (cond (x && type == 5) teis None) (begun m))
+        go false y = not-several
+        go true true = by-type-leads type (256 * high + low) (action / 2) (cond (type == 5) teis None) (λ other. ap (λ b. cond b teis None) other)
+        go true false = several-leads (action ∷ more) (type == 5)
+    serve-leads (a ∷ high ∷ low ∷ type ∷ []) = few-leads (a ∷ high ∷ low ∷ type ∷ []) (omega arith)
+    serve-leads (a ∷ high ∷ low ∷ []) = few-leads (a ∷ high ∷ low ∷ []) (omega arith)
+    serve-leads (a ∷ high ∷ []) = few-leads (a ∷ high ∷ []) (omega arith)
+    serve-leads (a ∷ []) = few-leads (a ∷ []) (omega arith)
+    serve-leads [] = few-leads [] (omega arith)

@@ -6,11 +6,14 @@ use Rattle.lapd_frame.specs.declared.notes.Note.TheVariants as notes
 use Rattle.lapd_frame.specs.declared.timers.Order.{Order}
 use Rattle.lapd_frame.specs.declared.timers.Order.TheVariants.{Stop}
 use Rattle.lapd_frame.specs.declared.timers.Timer.TheVariants.{T202}
+use Rattle.lapd_frame.specs.Readings.{by_reading}
+use Rattle.model_line.specs.declared.config.Config.{Config}
 use Rattle.model_teis.specs.Table as table
 use Rattle.model_teis.specs.declared.terminal.procedure.Procedure.{Procedure}
 use Rattle.model_teis.specs.declared.terminal.procedure.Procedure.TheVariants.{Asking, Verifying}
 use Rattle.model_teis.specs.terminal.Machine.{Terminal}
-use Rattle.model_teis.specs.terminal.Messages.{heard_in, heard_of_type}
+use Rattle.model_teis.specs.Information.{heard_by, looked_at}
+use Rattle.model_teis.specs.terminal.Messages.{heard_of_type}
 use Rattle.model_teis.specs.terminal.Rows as rows
 use Rattle.model_teis.specs.terminal.Words as words
 use Rattle.model_teis.specs.terminal.Words.{Course, begun, end_procedure, end_verifying_of, unserved}
@@ -116,23 +119,6 @@ module _ (t : Terminal) (once : (tei : ℕ) → IsOnce tei t.places) where
       → cond (may && is_some o) (Some (got tei)) None ≡ served ((cond may (rows.take_at tei o) unserved) (begun t))
   takes-if tei may o free = grind (arith, got-is)
 
-  own-if : (tei : ℕ) (same : Bool)
-      → cond (same && (rows.is_assignable tei t.places && is_some (free_place t.places))) (Some (got tei)) None ≡ served ((cond same (rows.take_tei tei) unserved) (begun t))
-  own-if tei same = grind (arith, takes-if)
-
-  may-come : (tei : ℕ) → (nat_le 64 tei && nat_le tei 126 && not (seen.is_on tei k) && list_any seen.is_free k.places) ≡ (rows.is_assignable tei t.places && is_some (free_place t.places))
-  may-come tei = grind (arith, nat_le, seen.is_free, on-same, free-same, is_some)
-
-  assigned-is : (ri tei : ℕ) (o : Option Procedure) → seen.by_assigned ri tei o k ≡ served (rows.assigned ri tei o (begun t))
-  assigned-is ri tei None = ap (λ b. cond b (Some (seen.verifies tei 1 k)) None) (on-same tei t.places) ∙ go (table.is_on tei t.places)
-    where
-      go : (b : Bool) → cond b (Some (seen.verifies tei 1 k)) None ≡ served ((cond b (words.verify tei 1) unserved) (begun t))
-      go true = ap Some (verifies-is tei 1 (begun t))
-      go false = refl
-  assigned-is ri tei (Some (Asking own attempts)) =
-      ap (λ b. cond (own == ri && b) (Some (got tei)) None) (may-come tei) ∙ own-if tei (own == ri)
-  assigned-is ri tei (Some (Verifying on attempts)) = refl
-
   denied-is : (ri : ℕ) (o : Option Procedure) → seen.by_denied ri o k ≡ served (rows.denied ri o (begun t))
   denied-is ri None = refl
   denied-is ri (Some (Asking own attempts)) = go (own == ri)
@@ -142,31 +128,56 @@ module _ (t : Terminal) (once : (tei : ℕ) → IsOnce tei t.places) where
       go false = refl
   denied-is ri (Some (Verifying on attempts)) = refl
 
-  -- any message
-  by-both : {X Y : Type 0} (P : X → Y → Type 0) (b : Bool) (u v : X) (x y : Y) → P u x → P v y → P (cond b u v) (cond b x y)
-  by-both P b u v x y h j = grind arith
+  own-if : (tei : ℕ) (same : Bool)
+      → cond (same && (rows.is_assignable t.reading tei t.places && is_some (free_place t.places))) (Some (got tei)) None ≡ served ((cond same (rows.take_tei tei) unserved) (begun t))
+  own-if tei same = grind (arith, takes-if)
 
-  otherwise : {X Y : Type 0} (P : X → Y → Type 0) (b : Bool) (u v : X) (x y : Y) → P u x → P v y → P (cond (not b) v u) (cond b x y)
-  otherwise P b u v x y h j = grind arith
+  may-come : (low tei : ℕ)
+      → (nat_le low tei && nat_le tei 126 && not (seen.is_on tei k) && list_any seen.is_free k.places)
+      ≡ ((nat_le low tei && nat_le tei 126 && not (table.is_on tei t.places)) && is_some (free_place t.places))
+  may-come low tei = grind (arith, nat_le, seen.is_free, on-same, free-same, is_some)
 
-  abbrev of_type : ℕ → ℕ → ℕ → Option OfTerminal
-  of_type type ri action =
-      cond (type == 2) (seen.by_assigned ri action t.procedure k)
-      (cond (type == 3 && action == 127) (seen.by_denied ri t.procedure k)
-      (cond (type == 4) (seen.by_check (seen.named action k) k) (cond (type == 6) (seen.by_remove (seen.named action k) k) None)))
+  -- any message, as the configuration says that it is read
+  module _ (c : Config) (read : t.reading ≡ c.reading) where
+    assigned-is : (ri tei : ℕ) (o : Option Procedure) → seen.by_assigned c ri tei o k ≡ served (rows.assigned ri tei o (begun t))
+    assigned-is ri tei None = ap (λ b. cond b (Some (seen.verifies tei 1 k)) None) (on-same tei t.places) ∙ go (table.is_on tei t.places)
+      where
+        go : (b : Bool) → cond b (Some (seen.verifies tei 1 k)) None ≡ served ((cond b (words.verify tei 1) unserved) (begun t))
+        go true = ap Some (verifies-is tei 1 (begun t))
+        go false = refl
+    assigned-is ri tei (Some (Asking own attempts)) =
+        ap (λ b. cond (own == ri && b) (Some (got tei)) None)
+        (ap (λ r. nat_le (by_reading r 64 0) tei && nat_le tei 126 && not (seen.is_on tei k) && list_any seen.is_free k.places) (sym read) ∙ may-come (rows.lowest_taken t.reading) tei)
+        ∙ own-if tei (own == ri)
+    assigned-is ri tei (Some (Verifying on attempts)) = refl
 
-  by-type : (type ri action : ℕ) → of_type type ri action ≡ served (rows.serve (heard_of_type type ri action) (begun t))
-  by-type type ri action = grind (arith, by-both, begun, assigned-is, denied-is, named-is, check-is, table.named, remove-is)
+    by-both : {X Y : Type 0} (P : X → Y → Type 0) (b : Bool) (u v : X) (x y : Y) → P u x → P v y → P (cond b u v) (cond b x y)
+    by-both P b u v x y h j = grind arith
 
-  pub message-is : (info : List ℕ) → seen.by_message info k ≡ served (rows.serve (heard_in info) (begun t))
-  message-is [] = refl
-  message-is (entity ∷ []) = refl
-  message-is (entity ∷ high ∷ []) = refl
-  message-is (entity ∷ high ∷ low ∷ []) = refl
-  message-is (entity ∷ high ∷ low ∷ type ∷ []) = refl
-  message-is (entity ∷ high ∷ low ∷ type ∷ last ∷ []) =
-      otherwise (λ d o. d ≡ served (rows.serve o (begun t))) (entity == 0x0F && last % 2 == 1) _ _ _ _ (by-type type (256 * high + low) (last / 2)) refl
-  message-is (entity ∷ high ∷ low ∷ type ∷ last ∷ sixth ∷ more) = refl
+    otherwise : {X Y : Type 0} (P : X → Y → Type 0) (b : Bool) (u v : X) (x y : Y) → P u x → P v y → P (cond (not b) v u) (cond b x y)
+    otherwise P b u v x y h j = grind arith
+
+    abbrev of_type : ℕ → ℕ → ℕ → Option OfTerminal
+    of_type type ri action =
+        cond (type == 2) (seen.by_assigned c ri action t.procedure k)
+        (cond (type == 3 && action == 127) (seen.by_denied ri t.procedure k)
+        (cond (type == 4) (seen.by_check (seen.named action k) k) (cond (type == 6) (seen.by_remove (seen.named action k) k) None)))
+
+    by-type : (type ri action : ℕ) → of_type type ri action ≡ served (rows.serve (heard_of_type type ri action) (begun t))
+    by-type type ri action = grind (arith, by-both, begun, assigned-is, denied-is, named-is, check-is, table.named, remove-is)
+
+    five-is : (five : List ℕ) → seen.by_five c five k ≡ served (rows.serve (heard_by heard_of_type five) (begun t))
+    five-is [] = refl
+    five-is (entity ∷ []) = refl
+    five-is (entity ∷ high ∷ []) = refl
+    five-is (entity ∷ high ∷ low ∷ []) = refl
+    five-is (entity ∷ high ∷ low ∷ type ∷ []) = refl
+    five-is (entity ∷ high ∷ low ∷ type ∷ last ∷ []) =
+        otherwise (λ d o. d ≡ served (rows.serve o (begun t))) (entity == 0x0F && last % 2 == 1) _ _ _ _ (by-type type (256 * high + low) (last / 2)) refl
+    five-is (entity ∷ high ∷ low ∷ type ∷ last ∷ sixth ∷ more) = refl
+
+    pub message-is : (info : List ℕ) → seen.by_message c info k ≡ served (rows.hear info (begun t))
+    message-is info = ap (λ r. seen.by_five c (looked_at r info) k) (sym read) ∙ five-is (looked_at t.reading info)
 
   -- T202 runs out.
   pub expiry-is : (o : Option Procedure) → seen.ran_out o k ≡ shown (rows.expire_procedure o (begun t))

@@ -104,10 +104,10 @@ module _ (c : Config) (l : Line) (s : IsSound c l) (is : is_terminal c ≡ true)
   unserved-shows e te un = grind (arith, unserved_changes_nothing, terminals.told, none-granted, here)
 
   message-shows : (e : Event) (info : List ℕ) → let y = of_terminal c (terminals.message info) l in
-      Shows c l e (option_map_or (seen_there v) (seen.by_message info k) v) (told y.told) y.line
+      Shows c l e (option_map_or (seen_there v) (seen.by_message c info k) v) (told y.told) y.line
   unfolding terminals.course
   message-shows e info =
-      subst (λ o. let y = of_terminal c (terminals.message info) l in Shows c l e (option_map_or (seen_there v) o v) (told y.told) y.line) (sym (message-is t once info))
+      subst (λ o. let y = of_terminal c (terminals.message info) l in Shows c l e (option_map_or (seen_there v) o v) (told y.told) y.line) (sym (message-is t once c s.reading info))
       (go (terminals.told (terminals.message info) t).unserved refl)
     where
       go : (b : Bool) → (terminals.told (terminals.message info) t).unserved ≡ b
@@ -118,7 +118,7 @@ module _ (c : Config) (l : Line) (s : IsSound c l) (is : is_terminal c ≡ true)
 
   -- What is heard.
   abbrev Heard : StreamEvent → Aim → Option (List ℕ) → Type 0
-  Heard e aim message = let y = of_aim c aim l in Shows c l (hears e) (option_map_or (seen_there v) (option_and_then (λ info. seen.by_message info k) message) v) (told y.told) y.line
+  Heard e aim message = let y = of_aim c aim l in Shows c l (hears e) (option_map_or (seen_there v) (option_and_then (λ info. seen.by_message c info k) message) v) (told y.told) y.line
 
   at-terminal-shows : (e : Event) (d : Managed) (me : teis.Event) (te : TerminalEvent) → at_a_terminal me ≡ Some te → let y = of_terminal c te l in Shows c l e d (told y.told) y.line
       → let y = of_aim c (at_management me) l in Shows c l e d (told y.told) y.line

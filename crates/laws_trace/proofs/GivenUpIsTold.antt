@@ -25,7 +25,7 @@ use Rattle.laws_trace.proofs.NotedTei.{noted-tei}
 use Rattle.laws_trace.proofs.OneTei.{at-card, ending, full-ends, named-tei, one-tei}
 use Rattle.laws_trace.proofs.OneLink.{Goes, HasOne, IsGivenUp, is_at_link, event-goes}
 use Rattle.laws_trace.proofs.Outgoing.{next-quiet, view-is, kept-now, here-at}
-use Rattle.laws_trace.proofs.PlacesSeen.{is_release_of, lost_in, lost-so, asked-loses}
+use Rattle.laws_trace.proofs.PlacesSeen.{gives_up_of, lost_in, lost-so, asked-loses}
 use Rattle.laws_trace.proofs.SeenAs.{tei-seen}
 use Rattle.laws_trace.proofs.TimersAreTimely.{sound-now}
 use Rattle.laws_trace.proofs.ToldGivenUp.{of-its, none-in, none-refused, none-gave}
@@ -96,7 +96,7 @@ module _ (c : Config) (ranged : IsInRange c) (l : Line) (s : IsSound c l) (servi
 
     -- so does its deactivation,
     lost-by : IsDeactivated e a service tei → lost_in service tei (seen e a) ≡ true
-    lost-by by = grind (arith, lost_in, seen, asked-loses, is_release_of, own-is)
+    lost-by by = grind (arith, lost_in, seen, asked-loses, gives_up_of, own-is)
 
     ended : IsGivenUp c service tei e l new a → IsAllTold tei
     ended x = (ends-by true (has_tei tei new) (lost-by x.by) refl, x.given_up ∙ all-gone)

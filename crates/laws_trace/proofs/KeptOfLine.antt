@@ -1,5 +1,6 @@
 -- What an event of a line leaves of the contents that a link keeps.
-use Rattle.laws_trace.proofs.Vocabulary.{◌≡◌, ℕ, ◌%◌, Bool, true, false, cond, not, List, [], ◌∷◌, ◌++◌, ◌&&◌, ◌||◌, drop, Some, None, refl, sym, ap, ◌∙◌, subst, ◌⊎◌, inr, arith, append-nil, All, is_some, list_any, All-head, All-tail, none-some, Note, Service, place_of-is, is_on-at, not_not, accepted, ends, is_release, tells_loss, empties, Terms, Link, is_multiple_frame, queue_of, state_number}
+use Rattle.laws_trace.proofs.Vocabulary.{◌≡◌, ℕ, ◌%◌, Bool, true, false, cond, not, List, [], ◌∷◌, ◌++◌, ◌&&◌, ◌||◌, drop, Some, None, refl, sym, ap, ◌∙◌, subst, ◌⊎◌, inr, arith, append-nil, All, is_some, list_any, All-head, All-tail, none-some, Note, Service, place_of-is, is_on-at, not_not, accepted, ends, gives_up, LinkEstablish, Establish, tells_loss, empties, Terms, Link, is_multiple_frame}
+use Rattle.laws_trace.proofs.Vocabulary.{queue_of, state_number}
 use Rattle.laws_trace.proofs.Vocabulary.{notes-own, Config, at_link, Answer, request, next, Line, has_tei, link_of, place_in, terms, aim_of, Deactivate, at_requested, at_deactivated, aim_of_request, IsInRange, terms_in_range, notes_of, is_loss_of, is_granted, link-grants, not-refused, fresh_link, refusal, Request, Release, IsSound, of_link, brings, is_news, is_sabme, steps, seen, is_up}
 use Rattle.laws_trace.proofs.Vocabulary.{link_after as after, link_told as told, Event, cond_both, LinkRequest, requested, LinkRelease, LinkData, cleared, line_after, answer}
 use Rattle.model_link.specs.Requests as requests
@@ -16,7 +17,7 @@ use Rattle.laws_trace.proofs.NewsSeen.{one-begins}
 use Rattle.laws_trace.proofs.ObservedFacts.{brings-is}
 use Rattle.laws_trace.proofs.OfferTells.{offer-tells_nothing}
 use Rattle.laws_trace.proofs.OneLink.{is_at_link, HasOne, HasNone, Goes, event-goes}
-use Rattle.laws_trace.proofs.PlacesSeen.{is_release_of, granted_in, lost_in, told-grants, asked-grants, heard-loses, expiry-loses, asked-loses, own-release}
+use Rattle.laws_trace.proofs.PlacesSeen.{gives_up_of, granted_in, lost_in, told-grants, asked-grants, heard-loses, expiry-loses, asked-loses, own-release}
 use Rattle.laws_trace.proofs.TimersOfEvent.{off-fresh}
 use Rattle.laws_trace.proofs.TimersWatched as known
 use Rattle.laws_trace.proofs.Facts.{number-up}
@@ -56,23 +57,26 @@ module _ (c : Config) (ranged : IsInRange c) (l : Line) (s : IsSound c l) (servi
   noted e x =
       ap (list_any (is_loss_of service tei)) x.notes ∙ sym (own-losses own_terms (told own_terms x.event own).notes (notes-own own_terms x.event own))
 
-  -- a release that the line grants its link does not refuse
+  -- a release that the line grants its link does not refuse, nor an establishment
+  opened : (place : ℕ) → place_in l tei ≡ Some place → refusal c false (Establish service tei) l ≡ None → (full : Bool) → requests.refusal own_terms own full LinkEstablish ≡ None
+  opened place on none full = grind (arith, not_not)
+
   served : (place : ℕ) → place_in l tei ≡ Some place → refusal c false (Release service tei) l ≡ None → (full : Bool) → requests.refusal own_terms own full LinkRelease ≡ None
   served place on none full = grind (arith, not_not)
 
-  released : (what : LinkRequest) (full : Bool) → (what ≡ LinkRelease → requests.refusal own_terms own full LinkRelease ≡ None)
-      → is_release what ≡ ends own_terms (requested what full) own
-  released what full h = grind (arith, is_some, either-false)
+  released : (what : LinkRequest) (full : Bool) → (what ≡ LinkEstablish → requests.refusal own_terms own full LinkEstablish ≡ None) → (what ≡ LinkRelease → requests.refusal own_terms own full LinkRelease ≡ None)
+      → gives_up what ≡ ends own_terms (requested what full) own
+  released what full g h = grind (arith, is_some, either-false)
 
   pub lost-is : (e : Event) → (x : One e) → lost_in service tei (seen e (answer c e l)) ≡ empties own_terms x.event own
   lost-is (request r) x =
       let y = only-requested c r (answer c (request r) l) service tei x.event x.by in
       let ns = notes_of (answer c (request r) l) in
       asked-loses service tei r (answer c (request r) l)
-      ∙ ap (λ b. cond b (is_release_of service tei r || list_any (is_loss_of service tei) ns) false) y.4
+      ∙ ap (λ b. cond b (gives_up_of service tei r || list_any (is_loss_of service tei) ns) false) y.4
       ∙ ap (λ b. b || list_any (is_loss_of service tei) ns)
-      (ap (is_release_of service tei) y.3 ∙ own-release service tei y.0
-      ∙ released y.0 y.1 (λ is. served x.place x.placed (subst (λ r. refusal c false r l ≡ None) (y.3 ∙ ap (of_link service tei) is) (not-refused c r l y.4)) y.1)
+      (ap (gives_up_of service tei) y.3 ∙ own-release service tei y.0
+      ∙ released y.0 y.1 (λ is. opened x.place x.placed (subst (λ r. refusal c false r l ≡ None) (y.3 ∙ ap (of_link service tei) is) (not-refused c r l y.4)) y.1) (λ is. served x.place x.placed (subst (λ r. refusal c false r l ≡ None) (y.3 ∙ ap (of_link service tei) is) (not-refused c r l y.4)) y.1)
       ∙ sym (ap (λ le. ends own_terms le own) y.2)) ∙ ap (λ b. ends own_terms x.event own || b) (noted (request r) x)
   lost-is e x = grind (arith, heard-loses, noted, told, expiry-loses, only-offered, offer-tells_nothing)
 
@@ -82,7 +86,8 @@ module _ (c : Config) (ranged : IsInRange c) (l : Line) (s : IsSound c l) (servi
 
   -- and none loses what it keeps, while its TEI stays
   module _ (place : ℕ) (on : place_in l tei ≡ Some place) where
-    none-asked : (r : Request) → is_at_link service tei (aim_of_request r l) ≡ false → is_release_of service tei r ≡ false
+    none-asked : (r : Request) → is_at_link service tei (aim_of_request r l) ≡ false → gives_up_of service tei r ≡ false
+    none-asked (Establish its by) aims = elsewhere c service tei known.nothing_yet l place on its by (requested LinkEstablish false) (at_requested its by LinkEstablish) (λ p. refl) aims
     none-asked (Release its by) aims = elsewhere c service tei known.nothing_yet l place on its by (requested LinkRelease false) (at_requested its by LinkRelease) (λ p. refl) aims
     none-asked (Deactivate its by) aims = elsewhere c service tei known.nothing_yet l place on its by cleared (at_deactivated its by) (λ p. refl) aims
     none-asked other aims = refl
@@ -101,7 +106,7 @@ module _ (c : Config) (ranged : IsInRange c) (l : Line) (s : IsSound c l) (servi
       where
         go : (e : Event) → is_at_link service tei (aim_of c e l) ≡ false → list_any (is_loss_of service tei) (notes_of (answer c e l)) ≡ false
             → lost_in service tei (seen e (answer c e l)) ≡ false
-        go e aims none = grind (arith, heard-loses, expiry-loses, asked-loses, is_release_of, none-asked, is_at_link, not-refused)
+        go e aims none = grind (arith, heard-loses, expiry-loses, asked-loses, gives_up_of, none-asked, is_at_link, not-refused)
 
 -- One event of a line.
 module _ (c : Config) (ranged : IsInRange c) (l : Line) (s : IsSound c l) (service : Service) (tei : ℕ) (e : Event) where

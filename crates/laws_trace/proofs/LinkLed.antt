@@ -23,19 +23,19 @@ on-line x tei place on = is_on-at x.management.places place tei (place_of-is x.m
 
 -- What is seen, in state x.
 module _ (c : Config) (service : Service) (tei : ℕ) (k : Known) where
-  abbrev by_all : ℕ → List Seen → ℕ
-  by_all x t = fold (by_seen c service tei k) x t
+  abbrev by_all : Bool → ℕ → List Seen → ℕ
+  by_all owed x t = fold (by_seen c service tei k owed) x t
 
-  abbrev by_heard : ℕ → StreamEvent → ℕ
-  by_heard x e = by_seen c service tei k x (heard e)
+  abbrev by_heard : Bool → ℕ → StreamEvent → ℕ
+  by_heard owed x e = by_seen c service tei k owed x (heard e)
 
-  begun-leads : (x : ℕ) (frames : List (List ℕ)) → by_all x (map begun frames) ≡ x
-  begun-leads x [] = refl
-  begun-leads x (f ∷ frames) = begun-leads x frames
+  begun-leads : (owed : Bool) (x : ℕ) (frames : List (List ℕ)) → by_all owed x (map begun frames) ≡ x
+  begun-leads owed x [] = refl
+  begun-leads owed x (f ∷ frames) = begun-leads owed x frames
 
   -- a frame as it is read, and one that was too long to keep
-  abbrev by_reading : ℕ → Result Parts ReadFault → ℕ
-  by_reading x r = cond (is_up x && is_some (option_and_then (fault_of service tei) (result_err r))) 5 (by_parts c service tei k x (result_ok r))
+  abbrev by_reading : Bool → ℕ → Result Parts ReadFault → ℕ
+  by_reading owed x r = cond (is_up x && is_some (option_and_then (fault_of service tei) (result_err r))) 5 (by_parts c service tei k owed x (result_ok r))
 
   no-fault : (x y : ℕ) (b : Bool) (code : ErrorCode) → b ≡ false → cond (is_up x && is_some (cond b (Some code) None)) 5 y ≡ y
   no-fault x y b code none = ap (λ b. cond (is_up x && is_some (cond b (Some code) None)) 5 y) none ∙ ap (λ b. cond b 5 y) (and-false (is_up x))
@@ -52,10 +52,10 @@ module _ (c : Config) (service : Service) (tei : ℕ) (k : Known) where
             let is = addressed-is l address service tei place what m (eqb-true address.sapi (sapi_of service) parts.0) (eqb-true address.tei tei parts.1) on in
             absurd (true≢false (sym (own-is service tei) ∙ sym (ap (is_at_link service tei) is) ∙ aims))
 
-    read-none : (x : ℕ) (r : Result Parts ReadFault) → is_at_link service tei (aim_of_reading c l r) ≡ false → by_reading x r ≡ x
-    read-none x (Ok f) aims =
-        no-fault x (by_parts c service tei k x (Some f)) false L refl
-        ∙ ap (λ b. cond b (by_frame c.reading k x f.address.command (is_too_long c f) f.control) x) (go (is_for service tei f.address) refl)
+    read-none : (owed : Bool) (x : ℕ) (r : Result Parts ReadFault) → is_at_link service tei (aim_of_reading c l r) ≡ false → by_reading owed x r ≡ x
+    read-none owed x (Ok f) aims =
+        no-fault x (by_parts c service tei k owed x (Some f)) false L refl
+        ∙ ap (λ b. cond b (by_frame c.reading k owed x f.address.command (is_too_long c f) f.control) x) (go (is_for service tei f.address) refl)
       where
         go : (b : Bool) → is_for service tei f.address ≡ b → b ≡ false
         go false for = refl
@@ -63,13 +63,13 @@ module _ (c : Config) (service : Service) (tei : ℕ) (k : Known) where
             let parts = both-true (f.address.sapi == sapi_of service) (f.address.tei == tei) for in
             let is = addressed-is l f.address service tei place (link.frame f) (message_of f.control f.info) (eqb-true f.address.sapi (sapi_of service) parts.0) (eqb-true f.address.tei tei parts.1) on in
             absurd (true≢false (sym (own-is service tei) ∙ sym (ap (λ aim. is_at_link service tei (at_side c f aim)) is) ∙ aims))
-    read-none x r aims = grind (arith, no-fault, addressed-none)
+    read-none owed x r aims = grind (arith, no-fault, addressed-none)
 
     long-none : (x : ℕ) (ui : Bool) (r : Result Long ReadFault) → is_at_link service tei (aim_of_long c.reading ui l r) ≡ false → cond (is_up x && is_some (faulty_long (is_annex_b c && ui) service tei r)) 5 x ≡ x
     long-none x ui r aims = grind (arith, no-fault, addressed-none)
 
-    heard-none : (x : ℕ) (e : StreamEvent) → is_at_link service tei (aim_of_heard c l e) ≡ false → by_heard x e ≡ x
-    heard-none x e aims = grind (arith, read-none, long-none, no-fault)
+    heard-none : (owed : Bool) (x : ℕ) (e : StreamEvent) → is_at_link service tei (aim_of_heard c l e) ≡ false → by_heard owed x e ≡ x
+    heard-none owed x e aims = grind (arith, read-none, long-none, no-fault)
 
     -- an expiry, or a request, of another link
     pub elsewhere : (its : Service) (by : ℕ) (what : link.Event) (to : Option ℕ → Aim) → ((p : ℕ) → to (Some p) ≡ at_link its by p what)
@@ -101,23 +101,23 @@ module _ (c : Config) (service : Service) (tei : ℕ) (k : Known) where
     pub none-ticks : (e : Event) → is_at_link service tei (aim_of c e l) ≡ false → expired_of service tei e ≡ None
     none-ticks e aims = grind (arith, none-expired)
 
-    pub none-led : (n x : ℕ) (e : Event) → is_at_link service tei (aim_of c e l) ≡ false → led c service tei k n e (seen e (answer c e l)) x ≡ x
-    none-led n x e aims = grind (arith, heard-none, by_expiry, expired_of, none-expired, none-asked, is_at_link, not-refused, begun-leads)
+    pub none-led : (owed : Bool) (n x : ℕ) (e : Event) → is_at_link service tei (aim_of c e l) ≡ false → led c service tei k owed n e (seen e (answer c e l)) x ≡ x
+    none-led owed n x e aims = grind (arith, heard-none, by_expiry, expired_of, none-expired, none-asked, is_at_link, not-refused, begun-leads)
 
   -- One event of the link.
   module _ (a : Answer) where
     -- its deactivation
-    pub ended-leads : (n x : ℕ) (e : Event) → IsDeactivated e a service tei → led c service tei k n e (seen e a) x ≡ 4
-    ended-leads n x e by = grind (arith, led, own-is)
+    pub ended-leads : (owed : Bool) (n x : ℕ) (e : Event) → IsDeactivated e a service tei → led c service tei k owed n e (seen e a) x ≡ 4
+    ended-leads owed n x e by = grind (arith, led, own-is)
 
     pub own-address : (address : Address) → service_of address.sapi ≡ Some service → address.tei ≡ tei → is_for service tei address ≡ true
     own-address address sapi is = grind (arith, eq-eqb, sapi-is)
 
-    abbrev Leads : ℕ → ℕ → Event → link.Event → Type 0
-    Leads n x e event = led c service tei k n e (seen e a) x ≡ expected (terms c service tei) k n event x
+    abbrev Leads : Bool → ℕ → ℕ → Event → link.Event → Type 0
+    Leads owed n x e event = led c service tei k owed n e (seen e a) x ≡ expected (terms c service tei) k owed n event x
 
-    pub one-led : (n x : ℕ) (e : Event) (event : link.Event) → IsBy c e a service tei event → Leads n x e event
-    one-led n x e event y = grind (arith, led, no-fault, own-address, and-true, by_expiry, expired_of, own-is)
+    pub one-led : (owed : Bool) (n x : ℕ) (e : Event) (event : link.Event) → IsBy c e a service tei event → Leads owed n x e event
+    one-led owed n x e event y = grind (arith, led, no-fault, own-address, and-true, by_expiry, expired_of, own-is)
 
     pub one-ticks : (e : Event) (event : link.Event) → IsBy c e a service tei event → option_map_or one_more (expired_of service tei e) 0 ≡ ticks event
     one-ticks e event y = grind (arith, one_more, expired_of, heard-by, own-is)

@@ -8,13 +8,17 @@ use Rattle.laws_trace.proofs.MovesWatched.{by_expiry, first, repeated, led}
 use Rattle.laws_trace.proofs.States.{expired_of, one_more, differ}
 use Rattle.laws_trace.proofs.TimersWatched.{Known}
 use Rattle.laws_trace.proofs.LinkLed.{on-line, none-led, none-ticks, one-led, one-ticks, one-timer, ended-leads}
-use Rattle.laws_trace.proofs.MovesOfLink.{Counts, event-leads, event-counted, first_at}
+use Rattle.laws_trace.proofs.MovesOfLink.{Counts, Owes, event-leads, event-counted, first_at}
 use Rattle.laws_trace.proofs.OneLink.{HasOne, HasNone, Goes, event-goes}
 use Rattle.laws_trace.proofs.Runs.{nothing-seen, apart}
 use Rattle.laws_trace.proofs.TimerClaims.{told_state}
 use Rattle.laws_trace.proofs.TimersOfEvent.{IsTrueOf, state-on, off-fresh, off-state, comes}
 use Rattle.laws_trace.proofs.TimersOfEvent as events
 use Rattle.laws_trace.proofs.Facts.{same-state}
+
+-- Whether a release is owed is known in state 5.
+abbrev pub IsOwingOf : Service → ℕ → Bool → Line → Type 0
+IsOwingOf service tei owed l = let x = link_of service tei l in Owes x.state owed x.owed
 
 -- What was counted of a link is its RC, in states 5, 6 and 8.
 abbrev pub IsCountOf : Service → ℕ → ℕ → Line → Type 0
@@ -52,30 +56,31 @@ module _ (c : Config) (ranged : IsInRange c) (l : Line) (s : IsSound c l) (timed
 
   -- where the TEI is on the line before and after
   module _ (place there : ℕ) (on : place_in l tei ≡ Some place) (stays : place_in (lines.after c e l) tei ≡ Some there) where
-    abbrev Leads : Type 0
-    Leads = state_number next.state ≡ led c service tei k n e (seen e a) (state_number own.state)
+    module _ (owed : Bool) (owes : IsOwingOf service tei owed l) where
+      abbrev Leads : Type 0
+      Leads = state_number next.state ≡ led c service tei k owed n e (seen e a) (state_number own.state)
 
-    none-leads : HasNone c service tei e l (lines.after c e l) a → Leads
-    none-leads x =
-        ap (λ (y : Link). state_number y.state) (x.stays (on-line l tei place on) (on-line (lines.after c e l) tei there stays))
-        ∙ sym (none-led c service tei k l place on n (state_number own.state) e x.aims)
+      none-leads : HasNone c service tei e l (lines.after c e l) a → Leads
+      none-leads x =
+          ap (λ (y : Link). state_number y.state) (x.stays (on-line l tei place on) (on-line (lines.after c e l) tei there stays))
+          ∙ sym (none-led c service tei k l place on owed n (state_number own.state) e x.aims)
 
-    one-leads : HasOne c service tei e l (lines.after c e l) a → Leads
-    one-leads x =
-        let sound = events.sound c ranged l s timed service tei k agrees e x in
-        let ordered : own.a ≤ own.s = sound.ordered in
-        let small : t.k ≤ 127 = (events.range c ranged l s timed service tei k agrees e x).k_high in
-        ap (λ (y : Link). state_number y.state) x.is
-        ∙ event-leads t k own n ordered (omega (arith, small)) (events.own-timed c ranged l s timed service tei k agrees e x.place x.placed) agrees counts x.event
-        (no-event x.event c e a service tei x.by) ∙ sym (one-led c service tei k a n (state_number own.state) e x.event x.by)
+      one-leads : HasOne c service tei e l (lines.after c e l) a → Leads
+      one-leads x =
+          let sound = events.sound c ranged l s timed service tei k agrees e x in
+          let ordered : own.a ≤ own.s = sound.ordered in
+          let small : t.k ≤ 127 = (events.range c ranged l s timed service tei k agrees e x).k_high in
+          ap (λ (y : Link). state_number y.state) x.is
+          ∙ event-leads t k own n ordered (omega (arith, small)) (events.own-timed c ranged l s timed service tei k agrees e x.place x.placed) agrees counts owed owes x.event
+          (no-event x.event c e a service tei x.by) ∙ sym (one-led c service tei k a owed n (state_number own.state) e x.event x.by)
 
-    leads : Leads
-    leads = go (event-goes c e l service tei s)
-      where
-        go : Goes c service tei e l (lines.after c e l) a → Leads
-        go (inl x) = none-leads x
-        go (inr (inl x)) = one-leads x
-        go (inr (inr x)) = ap (λ (y : Link). state_number y.state) x.is ∙ sym (ended-leads c service tei k a n (state_number own.state) e x.by)
+      leads : Leads
+      leads = go (event-goes c e l service tei s)
+        where
+          go : Goes c service tei e l (lines.after c e l) a → Leads
+          go (inl x) = none-leads x
+          go (inr (inl x)) = one-leads x
+          go (inr (inr x)) = ap (λ (y : Link). state_number y.state) x.is ∙ sym (ended-leads c service tei k a owed n (state_number own.state) e x.by)
 
     none-counted : HasNone c service tei e l (lines.after c e l) a → Counts next.state (counted (told_state own.state) (told_state next.state)) next.repeats
     none-counted x =
@@ -112,20 +117,21 @@ module _ (c : Config) (ranged : IsInRange c) (l : Line) (s : IsSound c l) (timed
           ∙ ap (λ o. counted (told_state own.state) o) (state-on service tei (lines.after c e l) there stays)))
           (stays-counted place there on stays)
 
-  abbrev Led : Option ℕ → Option ℕ → Type 0
-  Led from to = IfSome to (λ state. state ≡ option_map_or (led c service tei k n e (seen e a)) from 4)
+  module _ (owed : Bool) (owes : IsOwingOf service tei owed l) where
+    abbrev Led : Option ℕ → Option ℕ → Type 0
+    Led from to = IfSome to (λ state. state ≡ option_map_or (led c service tei k owed n e (seen e a)) from 4)
 
-  pub event-led : Led (state_of service tei l) (state_of service tei (lines.after c e l))
-  event-led = go (place_in l tei) refl (place_in (lines.after c e l) tei) refl
-    where
-      go : (o : Option ℕ) → place_in l tei ≡ o → (p : Option ℕ) → place_in (lines.after c e l) tei ≡ p → Led (state_of service tei l) (state_of service tei (lines.after c e l))
-      go o on None off = subst (Led (state_of service tei l)) (sym (off-state service tei (lines.after c e l) off)) tt
-      go None off (Some there) stays =
-          subst (Led (state_of service tei l)) (sym (state-on service tei (lines.after c e l) there stays))
-          (ap (λ (y : Link). state_number y.state) (comes c e l s service tei off) ∙ sym (ap (λ o. option_map_or (led c service tei k n e (seen e a)) o 4) (off-state service tei l off)))
-      go (Some place) on (Some there) stays =
-          subst (Led (state_of service tei l)) (sym (state-on service tei (lines.after c e l) there stays))
-          (leads place there on stays ∙ sym (ap (λ o. option_map_or (led c service tei k n e (seen e a)) o 4) (state-on service tei l place on)))
+    pub event-led : Led (state_of service tei l) (state_of service tei (lines.after c e l))
+    event-led = go (place_in l tei) refl (place_in (lines.after c e l) tei) refl
+      where
+        go : (o : Option ℕ) → place_in l tei ≡ o → (p : Option ℕ) → place_in (lines.after c e l) tei ≡ p → Led (state_of service tei l) (state_of service tei (lines.after c e l))
+        go o on None off = subst (Led (state_of service tei l)) (sym (off-state service tei (lines.after c e l) off)) tt
+        go None off (Some there) stays =
+            subst (Led (state_of service tei l)) (sym (state-on service tei (lines.after c e l) there stays))
+            (ap (λ (y : Link). state_number y.state) (comes c e l s service tei off) ∙ sym (ap (λ o. option_map_or (led c service tei k owed n e (seen e a)) o 4) (off-state service tei l off)))
+        go (Some place) on (Some there) stays =
+            subst (Led (state_of service tei l)) (sym (state-on service tei (lines.after c e l) there stays))
+            (leads place there on stays owed owes ∙ sym (ap (λ o. option_map_or (led c service tei k owed n e (seen e a)) o 4) (state-on service tei l place on)))
 
 -- A request that finds the pool full.
 pub none-expires : (c : Config) (service : Service) (tei : ℕ) (e : line_event.Event) (l : Line) → lines.takes_slot c e l ≡ true → expired_of service tei e ≡ None
@@ -162,20 +168,20 @@ module _ (service : Service) (tei number : ℕ) where
         subst (λ x. IsCountOf service tei (counts_then (state_of service tei x)) x) (sym now)
         (event-counts card.config s.config l (line_sound card e.line (has_lines card s) here) (timely.lines e.line here) service tei k agrees n counts e.what))
 
-    abbrev IsLed : Line → Answer → Type 0
-    IsLed x b =
+    abbrev IsLed : Bool → Line → Answer → Type 0
+    IsLed owed x b =
         IfSome (state_of service tei x)
-        (λ state. state ≡ option_map_or (led card.config service tei k n e.what (seen e.what b)) (state_of service tei l) 4)
+        (λ state. state ≡ option_map_or (led card.config service tei k owed n e.what (seen e.what b)) (state_of service tei l) 4)
 
-    pub own-led : IsLed (line_at e.line (after e card)) (answer e card)
-    own-led =
-        by_room (λ ls b. IsLed (get_or ls e.line (fresh_line card.config)) b) e card
+    pub own-led : (owed : Bool) → IsOwingOf service tei owed (line_at e.line card) → IsLed owed (line_at e.line (after e card)) (answer e card)
+    own-led owed owes =
+        by_room (λ ls b. IsLed owed (get_or ls e.line (fresh_line card.config)) b) e card
         (λ full.
         let takes = (and_parts (lines.takes_slot card.config e.what l) (is_full card) full).0 in
         grind (arith, led, by_expiry, none-expires, nothing-seen))
         (λ room.
-        subst (λ x. IsLed x (lines.answer card.config e.what l)) (sym now)
-        (event-led card.config s.config l (line_sound card e.line (has_lines card s) here) (timely.lines e.line here) service tei k agrees n counts e.what))
+        subst (λ x. IsLed owed x (lines.answer card.config e.what l)) (sym now)
+        (event-led card.config s.config l (line_sound card e.line (has_lines card s) here) (timely.lines e.line here) service tei k agrees n counts e.what owed owes))
 
   -- Over a run, beside what is known.
   pub moment-counted : (card : Card) → card_sound.IsSound card → AllHaveTheirTimers card → (e : Event) → IsAtLine card e → (k : Known) (n : ℕ)

@@ -95,18 +95,18 @@ message-is-read c w e net = go (frame_of c e)
 
 -- The same of a terminal.
 pub message-is-read-there : (c : Config) (k : OfTerminal) (e : StreamEvent) → is_terminal c ≡ true
-    → option_and_then (seen.by_frame c k) (frame_of c e) ≡ option_and_then (λ info. seen.by_message info k) (message_in c e)
+    → option_and_then (seen.by_frame c k) (frame_of c e) ≡ option_and_then (λ info. seen.by_message c info k) (message_in c e)
 message-is-read-there c k e is = go (frame_of c e)
   where
-    by-test : (b : Bool) (info : List ℕ) → cond b (seen.by_message info k) None ≡ option_and_then (λ info. seen.by_message info k) (cond b (Some info) None)
+    by-test : (b : Bool) (info : List ℕ) → cond b (seen.by_message c info k) None ≡ option_and_then (λ info. seen.by_message c info k) (cond b (Some info) None)
     by-test true info = refl
     by-test false info = refl
 
-    go : (o : Option Parts) → option_and_then (seen.by_frame c k) o ≡ option_and_then (λ info. seen.by_message info k) (message_by c o)
+    go : (o : Option Parts) → option_and_then (seen.by_frame c k) o ≡ option_and_then (λ info. seen.by_message c info k) (message_by c o)
     go None = refl
     go (Some f) =
         by-test (is_message c f && f.address.command) f.info
-        ∙ sym (ap (λ b. option_and_then (λ info. seen.by_message info k) (cond (cond b (is_message c f && f.address.command) (manages c.side && is_message c f)) (Some f.info) None)) is)
+        ∙ sym (ap (λ b. option_and_then (λ info. seen.by_message c info k) (cond (cond b (is_message c f && f.address.command) (manages c.side && is_message c f)) (Some f.info) None)) is)
 
 pub record OfMessage (aim : Aim) (said : Option (List ℕ)) : Type 0 where
   pub info : List ℕ

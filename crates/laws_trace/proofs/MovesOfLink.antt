@@ -30,6 +30,11 @@ abbrev pub ticks : Event → ℕ
 ticks (expired timer) = one_more timer
 ticks other = 0
 
+-- Whether a release is owed is known in state 5, in which alone one is.
+abbrev pub Owes : State → Bool → Bool → Type 0
+Owes AwaitingEstablishment owed is = owed ≡ is
+Owes other owed is = Unit {0}
+
 -- As an observer says it, by the terms of a link.
 abbrev pub is_long : Terms → Parts → Bool
 is_long t f = (not (is_ui f.control) || by_reading t.reading false true) && nat_lt t.n201 (length f.info)
@@ -42,15 +47,15 @@ abbrev pub first_at : Terms → State → Event → ℕ
 first_at t from e = first_of t.reading (most_repeats t 8) (state_number from == 7) (timer_of e)
 
 -- What an observer says that an event leads to.
-abbrev pub expected : Terms → Known → ℕ → Event → ℕ → ℕ
-expected t k n (received (frame f)) state = by_frame t.reading k state f.address.command (is_long t f) f.control
-expected t k n (expired timer) state = by_expiry (nat_lt n (most_repeats t state)) k state timer
-expected t k n (requested Establish full) state = cond (state == 4) 5 state
-expected t k n (requested Release full) state = cond (is_up state) 6 state
-expected t k n (requested other full) state = state
-expected t k n offer state = state
-expected t k n cleared state = state
-expected t k n other state = cond (is_up state) 5 state
+abbrev pub expected : Terms → Known → Bool → ℕ → Event → ℕ → ℕ
+expected t k owed n (received (frame f)) state = by_frame t.reading k owed state f.address.command (is_long t f) f.control
+expected t k owed n (expired timer) state = by_expiry (nat_lt n (most_repeats t state)) k state timer
+expected t k owed n (requested Establish full) state = cond (state == 4) 5 state
+expected t k owed n (requested Release full) state = cond (is_up state) 6 state
+expected t k owed n (requested other full) state = state
+expected t k owed n offer state = state
+expected t k owed n cleared state = state
+expected t k owed n other state = cond (is_up state) 5 state
 
 module _ (t : Terms) (k : Known) (l : Link) (n : ℕ) (ordered : l.a ≤ l.s) (within : l.s ≤ l.a + 127) where
   -- an N(R) in state 7 or 8
@@ -60,16 +65,19 @@ module _ (t : Terms) (k : Known) (l : Link) (n : ℕ) (ordered : l.a ≤ l.s) (w
 
   -- RR, RNR and REJ in state 8
   ready-8 : IsKnown k l.a l.s l.peer_busy → (command f : Bool) (nr : Seq)
-      → state_number (cond (not (is_some (named l.a l.s nr))) AwaitingEstablishment (states.by_frame t.reading TimerRecovery command (ReceiveReady nr f)))
-      ≡ by_frame t.reading k 8 command false (ReceiveReady nr f)
+      → state_number (cond (not (is_some (named l.a l.s nr))) AwaitingEstablishment (states.by_frame t.reading l.owed TimerRecovery command (ReceiveReady nr f)))
+      ≡ by_frame t.reading k l.owed 8 command false (ReceiveReady nr f)
   ready-8 known command f nr = grind (arith, numbered)
 
+  same-owed : (here : State) (owed own : Bool) → Owes here owed own → (e : Event) → expected t k own n e (state_number here) ≡ expected t k owed n e (state_number here)
+  same-owed here owed own owes e = grind arith
+
   -- Any event but the end of the TEI.
-  pub event-leads : HasItsTimer l → Agrees l.state k l.a l.s l.peer_busy → Counts l.state n l.repeats → (e : Event) → (e ≡ cleared → ⊥)
-      → state_number (after t e l).state ≡ expected t k n e (state_number l.state)
-  event-leads timed known counts e some = ap state_number (event-follows t e l).leaves.state ∙ go e some
+  pub event-leads : HasItsTimer l → Agrees l.state k l.a l.s l.peer_busy → Counts l.state n l.repeats → (owed : Bool) → Owes l.state owed l.owed → (e : Event) → (e ≡ cleared → ⊥)
+      → state_number (after t e l).state ≡ expected t k owed n e (state_number l.state)
+  event-leads timed known counts owed owes e some = ap state_number (event-follows t e l).leaves.state ∙ go e some ∙ same-owed l.state owed l.owed owes e
     where
-      go : (e : Event) → (e ≡ cleared → ⊥) → state_number (state_after t (as_heard t e) l) ≡ expected t k n e (state_number l.state)
+      go : (e : Event) → (e ≡ cleared → ⊥) → state_number (state_after t (as_heard t e) l) ≡ expected t k l.owed n e (state_number l.state)
       go (received (frame f)) some = grind (arith, numbered, ready-8)
       go e some = grind (arith, by-state)
 

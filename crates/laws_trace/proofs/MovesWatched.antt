@@ -17,35 +17,36 @@ is_invalid k nr = nat_lt (steps k.acknowledged k.next) (steps k.acknowledged nr.
 abbrev pub by_receipt : Known → ℕ → Bool → Seq → ℕ
 by_receipt k state final nr = if is_up state && is_invalid k nr then 5 else if state == 8 && final then 7 else state
 
--- The state that a frame leads to from this one. The first bit says that it is a command, the second that it is too long.
-abbrev pub by_frame : Reading → Known → ℕ → Bool → Bool → Control → ℕ
+-- The state that a frame leads to from this one. The first bit says that a release is owed, the second that the frame is a command,
+-- the third that it is too long.
+abbrev pub by_frame : Reading → Known → Bool → ℕ → Bool → Bool → Control → ℕ
 -- clauses 5.5.1.2, 5.5.5 and 5.7
-by_frame r k state command too_long (Sabme p) = if state == 4 || is_up state then 7 else state
+by_frame r k owed state command too_long (Sabme p) = if state == 4 || is_up state then 7 else state
 -- clauses 5.5.3.2, 5.5.4 and 5.5.5
-by_frame r k state command too_long (Disc p) = if is_up state then 4 else state
--- clauses 5.5.1.2, 5.5.3.2 and 5.8.7
-by_frame r k state command too_long (Ua f) = if f && state == 5 then 7 else if f && state == 6 then 4 else state
+by_frame r k owed state command too_long (Disc p) = if is_up state then 4 else state
+-- clauses 5.5.1.2, 5.5.3.2 and 5.8.7, and annex B
+by_frame r k owed state command too_long (Ua f) = if f && state == 5 then (if owed then 6 else 7) else if f && state == 6 then 4 else state
 -- clauses 5.5.1.2, 5.5.3.2, 5.7.1 and 5.8.7
-by_frame r k state command too_long (Dm f) =
+by_frame r k owed state command too_long (Dm f) =
     if f && (state == 5 || state == 6) then 4 else if state == 8 || (state == 7 && not f) then 5
     else if not f && state == 4 then by_reading r state 5 else state
 -- clause 5.8.6
-by_frame r k state command too_long (Frmr f) = if is_up state then 5 else state
+by_frame r k owed state command too_long (Frmr f) = if is_up state then 5 else state
 -- clauses 5.8.2 and 5.8.5
-by_frame r k state command too_long (Information ns nr p) = if is_up state && (too_long || is_invalid k nr) then 5 else state
+by_frame r k owed state command too_long (Information ns nr p) = if is_up state && (too_long || is_invalid k nr) then 5 else state
 -- clauses 5.6.3 to 5.6.5 and 5.6.7
-by_frame r k state command too_long (ReceiveReady nr f) = by_receipt k state (not command && f) nr
-by_frame r k state command too_long (ReceiveNotReady nr f) = by_receipt k state (not command && f) nr
-by_frame r k state command too_long (Reject nr f) = by_receipt k state (not command && f) nr
+by_frame r k owed state command too_long (ReceiveReady nr f) = by_receipt k state (not command && f) nr
+by_frame r k owed state command too_long (ReceiveNotReady nr f) = by_receipt k state (not command && f) nr
+by_frame r k owed state command too_long (Reject nr f) = by_receipt k state (not command && f) nr
 -- clauses 5.2.3 and 5.8.5
-by_frame r k state command too_long (Ui p) = if is_up state && too_long then 5 else state
+by_frame r k owed state command too_long (Ui p) = if is_up state && too_long then 5 else state
 -- XID (profile)
-by_frame r k state command too_long other = state
+by_frame r k owed state command too_long other = state
 
-abbrev pub by_parts : Config → Service → ℕ → Known → ℕ → Option Parts → ℕ
-by_parts c service tei k state None = state
-by_parts c service tei k state (Some f) =
-    if is_for service tei f.address then by_frame c.reading k state f.address.command (is_too_long c f) f.control else state
+abbrev pub by_parts : Config → Service → ℕ → Known → Bool → ℕ → Option Parts → ℕ
+by_parts c service tei k owed state None = state
+by_parts c service tei k owed state (Some f) =
+    if is_for service tei f.address then by_frame c.reading k owed state f.address.command (is_too_long c f) f.control else state
 
 -- Layer 3 asks for the establishment of a link that is down, or for the release of one that is up (clauses 5.5.1.1 and
 -- 5.5.3.2); or the link is deactivated (annex B).
@@ -55,11 +56,11 @@ by_request service tei state (Release of by) = if is_own service tei of by && is
 by_request service tei state (Deactivate of by) = if is_own service tei of by then 4 else state
 by_request service tei state other = state
 
-abbrev pub by_seen : Config → Service → ℕ → Known → ℕ → Seen → ℕ
-by_seen c service tei k state (heard e) =
-    if is_up state && is_some (malformed c service tei e) then 5 else by_parts c service tei k state (frame_of c e)
-by_seen c service tei k state (granted r) = by_request service tei state r
-by_seen c service tei k state other = state
+abbrev pub by_seen : Config → Service → ℕ → Known → Bool → ℕ → Seen → ℕ
+by_seen c service tei k owed state (heard e) =
+    if is_up state && is_some (malformed c service tei e) then 5 else by_parts c service tei k owed state (frame_of c e)
+by_seen c service tei k owed state (granted r) = by_request service tei state r
+by_seen c service tei k owed state other = state
 
 -- In state 7 the expiry of the timer that runs leads to an enquiry, in state 8 (clauses 5.6.7 and 5.10.3). In states 5,
 -- 6 and 8 T200 leads to another state if SABME, DISC or the enquiry may not go again (clauses 5.5.1.3, 5.5.3.3, 5.6.7
@@ -84,6 +85,6 @@ repeated service tei number n m =
     else n + option_map_or one_more (expired_of service tei m.event.what) 0
 
 -- The state that an event leads to, with what is seen of it.
-abbrev pub led : Config → Service → ℕ → Known → ℕ → Event → List Seen → ℕ → ℕ
-led c service tei k n what now state =
-    fold (by_seen c service tei k) (option_map_or (by_expiry (nat_lt n (repeats_in c state)) k state) (expired_of service tei what) state) now
+abbrev pub led : Config → Service → ℕ → Known → Bool → ℕ → Event → List Seen → ℕ → ℕ
+led c service tei k owed n what now state =
+    fold (by_seen c service tei k owed) (option_map_or (by_expiry (nat_lt n (repeats_in c state)) k state) (expired_of service tei what) state) now

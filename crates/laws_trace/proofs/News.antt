@@ -1,11 +1,11 @@
 -- What layer 3 is told of establishments and releases: the law.
-use Rattle.laws_trace.proofs.Vocabulary.{◌≡◌, ℕ, ◌<◌, ◌==◌, ◌&&◌, not, Bool, true, false, cond, List, [], ◌∷◌, get_or, set, Option, Some, None, refl, sym, ap, ◌∙◌, subst, arith, eq-eqb, true≢false, fold, filter, list_any, option_map_or, and_parts, get_or-set_same, get_or-replicate, All-head, All-tail, PoolFull, Service, Link, Config, Answer, refused, Line, fresh_line, link_of, link_in, state_of}
+use Rattle.laws_trace.proofs.Vocabulary.{◌≡◌, ℕ, ◌<◌, ◌==◌, not, Bool, true, false, cond, List, [], ◌∷◌, get_or, set, Option, Some, None, refl, sym, ap, ◌∙◌, subst, arith, eq-eqb, true≢false, fold, filter, list_any, option_map_or, and_parts, get_or-set_same, get_or-replicate, All-head, All-tail, PoolFull, Service, Link, Config, Answer, refused, Line, fresh_line, link_of, link_in, state_of}
 use Rattle.laws_trace.proofs.Vocabulary.{IsInRange, Card, line_at, is_full, at, moments, fresh_is_sound, after_is_sound, has_lines, by_room, line_sound, AllHaveTheirTimers, timely-after, begins-timely-card, notes_of, nowhere, eqb-true, unwrap_or, fresh_link, fresh, CardEvent as Event, after, card_answer as answer, Moment, after_all, IsAtLine, AreAtLines, is_news, is_sabme, is_xid}
 use Rattle.laws_trace.proofs.Vocabulary.{releases, wrong}
 use Rattle.laws_trace.proofs.Vocabulary.{moment_of, seen, Always, CardIsSound as IsSound, and-false}
 use Rattle.model_line.specs.Event as line_event
 use Rattle.model_line.specs.Machine as lines
-use Rattle.laws_trace.proofs.NewsWatched.{asked, Owing, none_owed, owing, due, NewsIsTold}
+use Rattle.laws_trace.proofs.NewsWatched.{Wanted, none_left, none_wanted, asked, then_wanted, wish_of, Owing, none_owed, owing, due, NewsIsTold}
 use Rattle.laws_trace.proofs.TimersWatched.{brings, Known, watch}
 use Rattle.laws_trace.proofs.States.{is_state, differ}
 use Rattle.laws_trace.proofs.LinksMove.{differ-self}
@@ -18,7 +18,7 @@ use Rattle.laws_trace.proofs.Runs.{apart}
 
 module _ (service : Service) (tei number : ℕ) where
   -- One event of a card.
-  module _ (card : Card) (s : IsSound card) (e : Event) (here : IsAtLine card e) (was : Bool) (asks : IsAskedOf service tei was (line_at e.line card))
+  module _ (card : Card) (s : IsSound card) (e : Event) (here : IsAtLine card e) (was : Wanted) (asks : IsAskedOf service tei was (line_at e.line card))
       (outstanding : Bool) (owes : IsOwed service tei outstanding (line_at e.line card)) where
     abbrev l : Line
     l = line_at e.line card
@@ -29,16 +29,21 @@ module _ (service : Service) (tei number : ℕ) where
     now : get_or (set card.lines e.line its) e.line (fresh_line card.config) ≡ its
     now = get_or-set_same card.lines e.line its (fresh_line card.config) (omega (arith, s.count, here))
 
-    abbrev asked_then : Option ℕ → Bool
-    asked_then to = cond (is_state 5 to && differ (state_of service tei l) to) (is_state 4 (state_of service tei l)) was
+    abbrev asked_then : Answer → Option ℕ → Wanted
+    asked_then a to = then_wanted (state_of service tei l) to (wish_of card.config service tei e.what a) was
 
-    pub own-asked : IsAskedOf service tei (asked_then (state_of service tei (line_at e.line (after e card)))) (line_at e.line (after e card))
+    refused-asks : (what : line_event.Event) → lines.takes_slot card.config what l ≡ true
+        → then_wanted (state_of service tei l) (state_of service tei l) (wish_of card.config service tei what (refused PoolFull)) was ≡ was
+    unfolding lines.takes_slot
+    refused-asks what takes = grind (arith, is_state, differ-self, and-false)
+
+    pub own-asked : IsAskedOf service tei (asked_then (answer e card) (state_of service tei (line_at e.line (after e card)))) (line_at e.line (after e card))
     own-asked =
-        by_room (λ ls b. let x = get_or ls e.line (fresh_line card.config) in IsAskedOf service tei (asked_then (state_of service tei x)) x) e card
-        (λ full. subst (λ b. IsAskedOf service tei b l) (sym (grind (arith, is_state, differ-self, and-false))) asks)
+        by_room (λ ls b. let x = get_or ls e.line (fresh_line card.config) in IsAskedOf service tei (asked_then b (state_of service tei x)) x) e card
+        (λ full. subst (λ b. IsAskedOf service tei b l) (sym (refused-asks e.what (and_parts (lines.takes_slot card.config e.what l) (is_full card) full).0)) asks)
         (λ room.
-        subst (λ x. IsAskedOf service tei (asked_then (state_of service tei x)) x) (sym now)
-        (event-asks card.config l (line_sound card e.line (has_lines card s) here) service tei was asks outstanding owes e.what))
+        subst (λ x. IsAskedOf service tei (asked_then (lines.answer card.config e.what l) (state_of service tei x)) x) (sym now)
+        (event-asks card.config s.config l (line_sound card e.line (has_lines card s) here) service tei was asks outstanding owes e.what))
 
     abbrev IsDue : Line → Answer → Type 0
     IsDue x b =
@@ -60,57 +65,76 @@ module _ (service : Service) (tei number : ℕ) where
         (sym (ap (λ o. unwrap_or o 4) was-in)))
         (λ room.
         subst (λ x. IsDue x (lines.answer card.config e.what l)) (sym now)
-        (event-due card.config l (line_sound card e.line (has_lines card s) here) service tei was asks outstanding owes e.what))
+        (event-due card.config s.config l (line_sound card e.line (has_lines card s) here) service tei was asks outstanding owes e.what))
 
     pub own-silent : state_of service tei l ≡ None → filter (is_news service tei) (notes_of (answer e card)) ≡ []
     own-silent none =
         by_room (λ ls b. filter (is_news service tei) (notes_of b) ≡ []) e card (λ full. refl)
-        (λ room. off-due card.config l (line_sound card e.line (has_lines card s) here) service tei was asks outstanding owes e.what none)
+        (λ room. off-due card.config s.config l (line_sound card e.line (has_lines card s) here) service tei was asks outstanding owes e.what none)
 
   -- Over a run.
-  abbrev StandsOwing : Bool → Owing → Line → Type 0
+  abbrev StandsOwing : Wanted → Owing → Line → Type 0
   StandsOwing was w l = IsAskedOf service tei was l × IsTrueOf service tei w.known l × IsOwed service tei w.outstanding l
 
-  module _ (card : Card) (s : IsSound card) (timely : AllHaveTheirTimers card) (e : Event) (here : IsAtLine card e) (within : number < card.config.lines) where
+  module _ (card : Card) (s : IsSound card) (timely : AllHaveTheirTimers card) (e : Event) (here : IsAtLine card e) where
     abbrev m : Moment
     m = record { card = card; event = e; answer = answer e card }
 
     abbrev later : Line
     later = line_at number (after e card)
 
-    moment-asked : (was : Bool) → IsAskedOf service tei was (line_at number card) → (outstanding : Bool) → IsOwed service tei outstanding (line_at number card)
+    pub moment-asked : (was : Wanted) → IsAskedOf service tei was (line_at number card) → (outstanding : Bool) → IsOwed service tei outstanding (line_at number card)
         → IsAskedOf service tei (asked service tei number was m) later
     moment-asked was asks outstanding owes = go (e.line == number) refl
       where
         go : (b : Bool) → (e.line == number) ≡ b
-            → IsAskedOf service tei (cond (b && is_state 5 (state_of service tei later) && differ (state_of service tei (line_at number card)) (state_of service tei later)) (is_state 4 (state_of service tei (line_at number card))) was) later
+            → IsAskedOf service tei (cond b (then_wanted (state_of service tei (line_at number card)) (state_of service tei later) (wish_of card.config service tei e.what (answer e card)) was) was) later
         go true is = grind (arith, eqb-true, IsAskedOf, is_state, differ, own-asked, IsOwed)
         go false other = subst (IsAskedOf service tei was) (sym (apart card e number (λ same. true≢false (sym (eq-eqb e.line number (sym same)) ∙ other)))) asks
 
     -- in state 5 what is outstanding stays
+    abbrev still : Answer → Option ℕ → Option ℕ → Bool → Bool
+    still a from to outstanding = cond (differ from to) outstanding (option_map_or none_left (wish_of card.config service tei e.what a) outstanding)
+
+    refused-still : (what : line_event.Event) (x : Line) → lines.takes_slot card.config what x ≡ true → (b outstanding : Bool)
+        → cond b outstanding (option_map_or none_left (wish_of card.config service tei what (refused PoolFull)) outstanding) ≡ outstanding
+    unfolding lines.takes_slot
+    refused-still what x takes b outstanding = grind arith
+
     own-owes : (k : Known) → IsTrueOf service tei k (line_at e.line card) → (outstanding : Bool) → IsOwed service tei outstanding (line_at e.line card)
-        → is_state 5 (state_of service tei (line_at e.line (after e card))) ≡ true → IsOwed service tei outstanding (line_at e.line (after e card))
+        → is_state 5 (state_of service tei (line_at e.line (after e card))) ≡ true
+        → IsOwed service tei (still (answer e card) (state_of service tei (line_at e.line card)) (state_of service tei (line_at e.line (after e card))) outstanding) (line_at e.line (after e card))
     own-owes k agrees outstanding owes =
-        by_room (λ ls b. let x = get_or ls e.line (fresh_line card.config) in is_state 5 (state_of service tei x) ≡ true → IsOwed service tei outstanding x) e card
-        (λ full in_5. owes)
+        by_room (λ ls b. let x = get_or ls e.line (fresh_line card.config) in is_state 5 (state_of service tei x) ≡ true
+        → IsOwed service tei (still b (state_of service tei (line_at e.line card)) (state_of service tei x) outstanding) x) e card
+        (λ full in_5. let x = line_at e.line card in
+        refused-still e.what x (and_parts (lines.takes_slot card.config e.what x) (is_full card) full).0 (differ (state_of service tei x) (state_of service tei x)) outstanding ∙ owes)
         (λ room.
-        subst (λ x. is_state 5 (state_of service tei x) ≡ true → IsOwed service tei outstanding x)
+        subst (λ x. is_state 5 (state_of service tei x) ≡ true
+        → IsOwed service tei (still (lines.answer card.config e.what (line_at e.line card)) (state_of service tei (line_at e.line card)) (state_of service tei x) outstanding) x)
         (sym (get_or-set_same card.lines e.line (lines.after card.config e.what (line_at e.line card)) (fresh_line card.config) (omega (arith, s.count, here))))
         (five-owes card.config s.config (line_at e.line card) (line_sound card e.line (has_lines card s) here) (timely.lines e.line here) service tei k agrees e.what outstanding owes))
 
+    abbrev its-still : Bool → ℕ → Bool → Bool
+    its-still b n outstanding = cond (differ (state_of service tei (line_at n card)) (state_of service tei (line_at n (after e card)))) outstanding
+        (option_map_or none_left (cond b (wish_of card.config service tei e.what (answer e card)) None) outstanding)
+
+    no-wish : (b outstanding : Bool) → cond b outstanding (option_map_or none_left None outstanding) ≡ outstanding
+    no-wish b outstanding = grind arith
+
     five-stays : (k : Known) → IsTrueOf service tei k (line_at number card) → (outstanding : Bool) → IsOwed service tei outstanding (line_at number card)
-        → is_state 5 (state_of service tei later) ≡ true → IsOwed service tei outstanding later
+        → is_state 5 (state_of service tei later) ≡ true → IsOwed service tei (its-still (e.line == number) number outstanding) later
     five-stays k agrees outstanding owes = go (e.line == number) refl
       where
-        go : (b : Bool) → (e.line == number) ≡ b → is_state 5 (state_of service tei later) ≡ true → IsOwed service tei outstanding later
+        go : (b : Bool) → (e.line == number) ≡ b → is_state 5 (state_of service tei later) ≡ true → IsOwed service tei (its-still b number outstanding) later
         go true is =
             let same = eqb-true e.line number is in
-            subst (λ n. is_state 5 (state_of service tei (line_at n (after e card))) ≡ true → IsOwed service tei outstanding (line_at n (after e card))) same
+            subst (λ n. is_state 5 (state_of service tei (line_at n (after e card))) ≡ true → IsOwed service tei (its-still true n outstanding) (line_at n (after e card))) same
             (own-owes k (subst (λ n. IsTrueOf service tei k (line_at n card)) (sym same) agrees) outstanding (subst (λ n. IsOwed service tei outstanding (line_at n card)) (sym same) owes))
-        go false other = λ in_5. subst (IsOwed service tei outstanding) (sym (apart card e number (λ same. true≢false (sym (eq-eqb e.line number (sym same)) ∙ other)))) owes
+        go false other = λ in_5. no-wish (differ (state_of service tei (line_at number card)) (state_of service tei later)) outstanding ∙ subst (IsOwed service tei outstanding) (sym (apart card e number (λ same. true≢false (sym (eq-eqb e.line number (sym same)) ∙ other)))) owes
 
-    moment-stands : (was : Bool) (w : Owing) → StandsOwing was w (line_at number card) → StandsOwing (asked service tei number was m) (owing card.config service tei number w m) later
-    moment-stands was w h = (moment-asked was h.0 w.outstanding h.2, known, go (is_state 5 (state_of service tei later)) refl)
+    moment-stands : number < card.config.lines → (was : Wanted) (w : Owing) → StandsOwing was w (line_at number card) → StandsOwing (asked service tei number was m) (owing card.config service tei number w m) later
+    moment-stands within was w h = (moment-asked was h.0 w.outstanding h.2, known, go (is_state 5 (state_of service tei later)) refl)
       where
         new : Known
         new = watch card.config service tei number w.known m
@@ -121,11 +145,11 @@ module _ (service : Service) (tei number : ℕ) where
         sound-later : IsSound (after e card)
         sound-later = after_is_sound card e s here
 
-        go : (b : Bool) → is_state 5 (state_of service tei later) ≡ b → IsOwed service tei (cond b w.outstanding (not (new.next == new.acknowledged))) later
+        go : (b : Bool) → is_state 5 (state_of service tei later) ≡ b → IsOwed service tei (cond b (its-still (e.line == number) number w.outstanding) (not (new.next == new.acknowledged))) later
         go true in_5 = five-stays w.known h.1 w.outstanding h.2 in_5
         go false off = known-owes card.config s.config later (line_sound (after e card) number (has_lines (after e card) sound-later) within) service tei new known off
 
-  run-stands : (card : Card) (events : List Event) → IsSound card → AllHaveTheirTimers card → AreAtLines card events → number < card.config.lines → (was : Bool) (w : Owing)
+  run-stands : (card : Card) (events : List Event) → IsSound card → AllHaveTheirTimers card → AreAtLines card events → number < card.config.lines → (was : Wanted) (w : Owing)
       → StandsOwing was w (line_at number card)
       → StandsOwing (fold (asked service tei number) was (moments card events)) (fold (owing card.config service tei number) w (moments card events)) (line_at number (after_all card events))
   unfolding moments after_all
@@ -138,8 +162,8 @@ module _ (service : Service) (tei number : ℕ) where
 
 -- From a fresh card on.
 module _ (c : Config) (events : List Event) (number : ℕ) (ranged : IsInRange c) (all : AreAtLines (fresh c) events) (within : number < c.lines) (service : Service) (tei : ℕ) where
-  abbrev was_asked : Bool
-  was_asked = fold (asked service tei number) false (moments (fresh c) events)
+  abbrev was_asked : Wanted
+  was_asked = fold (asked service tei number) none_wanted (moments (fresh c) events)
 
   abbrev owes_now : Owing
   owes_now = fold (owing c service tei number) none_owed (moments (fresh c) events)
@@ -149,9 +173,9 @@ module _ (c : Config) (events : List Event) (number : ℕ) (ranged : IsInRange c
       let start : line_at number (fresh c) ≡ fresh_line c = get_or-replicate c.lines number (fresh_line c) (fresh_line c) within in
       let off : link_of service tei (line_at number (fresh c)) ≡ fresh_link =
       ap (link_of service tei) start ∙ ap (λ o. option_map_or (link_in (fresh_line c) service) o fresh_link) (nowhere c tei) in
-      let begun : StandsOwing service tei number false none_owed (line_at number (fresh c)) =
-      (subst (λ (y : Link). Asks y.state false y.asked) (sym off) tt, begins-true c events number ranged all within service tei, sym (ap (λ (y : Link). not (y.s == y.a)) off)) in
-      run-stands service tei number (fresh c) events (fresh_is_sound c ranged) (begins-timely-card c) all within false none_owed begun
+      let begun : StandsOwing service tei number none_wanted none_owed (line_at number (fresh c)) =
+      (subst (λ (y : Link). Asks y.state none_wanted y.asked y.owed) (sym off) tt, begins-true c events number ranged all within service tei, sym (ap (λ (y : Link). not (y.s == y.a)) off)) in
+      run-stands service tei number (fresh c) events (fresh_is_sound c ranged) (begins-timely-card c) all within none_wanted none_owed begun
 
   pub asked-now : IsAskedOf service tei was_asked (line_at number (after_all (fresh c) events))
   asked-now = stands-now.0
@@ -162,7 +186,7 @@ module _ (c : Config) (events : List Event) (number : ℕ) (ranged : IsInRange c
   asked-behind what =
       let card = after_all (fresh c) events in
       let here : number < card.config.lines = subst (λ (d : Config). number < d.lines) (sym (config-now c events number ranged all within service tei)) within in
-      moment-asked service tei number card (sound-now c events number ranged all within service tei) (timely-now c events number ranged all within service tei) (at number what) here here
+      moment-asked service tei number card (sound-now c events number ranged all within service tei) (timely-now c events number ranged all within service tei) (at number what) here
       was_asked stands-now.0 owes_now.outstanding stands-now.2
 
 pub news-is-told : Always NewsIsTold
@@ -170,7 +194,7 @@ news-is-told c events number ranged all within service tei before what behind is
     let front = front-at (fresh c) before (at number what) behind (subst (AreAtLines (fresh c)) is all) in
     let card = after_all (fresh c) before in
     let e = at number what in
-    let was = fold (asked service tei number) false (moments (fresh c) before) in
+    let was = fold (asked service tei number) none_wanted (moments (fresh c) before) in
     let w = fold (owing c service tei number) none_owed (moments (fresh c) before) in
     let kept = config-now c before number ranged front within service tei in
     let here : number < card.config.lines = subst (λ (c : Config). number < c.lines) (sym kept) within in

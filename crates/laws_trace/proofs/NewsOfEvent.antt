@@ -1,30 +1,31 @@
 -- What layer 3 is told of the establishment and release of a link: one event of its line.
-use Rattle.laws_trace.proofs.Vocabulary.{arith, ◌≡◌, ℕ, ◌==◌, ◌&&◌, Bool, false, cond, List, [], Option, Some, None, refl, sym, ap, ◌∙◌, subst, true≢false, inl, inr, filter, list_any, none-some, ErrorCode, Service, State, Link, state_number, Config, Answer, Line, has_tei, link_of, place_in, state_of, notes_of, is-off, moves, unwrap_or, Control, fresh_link, IsSound, is_news, is_sabme, is_xid}
+use Rattle.laws_trace.proofs.Vocabulary.{arith, ◌≡◌, ℕ, ◌==◌, ◌&&◌, Bool, false, cond, List, [], Option, Some, None, refl, sym, ap, ◌∙◌, subst, true≢false, inl, inr, filter, list_any, none-some, ErrorCode, Service, State, Link, state_number, Config, Answer, Line, has_tei, link_of, place_in, state_of, notes_of, is-off, moves, unwrap_or, Control, fresh_link, IsInRange, terms, link_after, IsSound}
+use Rattle.laws_trace.proofs.Vocabulary.{is_news, is_sabme, is_xid}
 use Rattle.laws_trace.proofs.Vocabulary.{releases, wrong, seen, Event, and-false, line_after, answer, event-follows}
-use Rattle.laws_trace.proofs.NewsWatched.{due}
+use Rattle.laws_trace.proofs.NewsWatched.{Wanted, due, newly, then_wanted, wish_of, with_wish}
 use Rattle.laws_trace.proofs.TimersWatched.{brings, control_in}
-use Rattle.laws_trace.proofs.States.{is_state, differ}
 use Rattle.laws_trace.proofs.ErrorsSeen.{none-wrong, one-wrong}
 use Rattle.laws_trace.proofs.LinkLed.{on-line, own-is}
 use Rattle.laws_trace.proofs.LinksMove.{differs, no-event}
 use Rattle.laws_trace.proofs.NewsOfLeaving.{leaving-due, none-released, one-stays}
 use Rattle.laws_trace.proofs.NewsOfOthers.{none-filtered, others-silent}
-use Rattle.laws_trace.proofs.NewsRows.{sabme_of, xid_of, released_of}
+use Rattle.laws_trace.proofs.NewsRows.{sabme_of, xid_of, released_of, wanted_of}
 use Rattle.laws_trace.proofs.NewsOfLink.{event-news, Asks, event-asking}
 use Rattle.laws_trace.proofs.OwedOfEvent.{IsOwed}
+use Rattle.laws_trace.proofs.LineAtEnd.{link-at-end}
 use Rattle.laws_trace.proofs.OneLink.{HasOne, HasNone, Goes, event-goes, IsGivenUp}
 use Rattle.laws_trace.proofs.TimerClaims.{told_state}
 use Rattle.laws_trace.proofs.TimersOfEvent.{state-on, off-fresh, off-state, comes}
-use Rattle.laws_trace.proofs.NewsSeen.{one-begins, none-begins, none-releases}
+use Rattle.laws_trace.proofs.NewsSeen.{one-begins, none-begins, none-releases, one-wish, none-wish}
 use Rattle.laws_trace.proofs.TimersOfLine.{seen-brings}
 use Rattle.laws_trace.proofs.Deliveries.{frame_by, heard-by}
 use Rattle.laws_trace.proofs.Facts.{same-state}
 
-abbrev pub IsAskedOf : Service → ℕ → Bool → Line → Type 0
-IsAskedOf service tei was l = let x = link_of service tei l in Asks x.state was x.asked
+abbrev pub IsAskedOf : Service → ℕ → Wanted → Line → Type 0
+IsAskedOf service tei was l = let x = link_of service tei l in Asks x.state was x.asked x.owed
 
 -- One event of a line.
-module _ (c : Config) (l : Line) (s : IsSound c l) (service : Service) (tei : ℕ) (was : Bool) (asks : IsAskedOf service tei was l) (outstanding : Bool) (owes : IsOwed service tei outstanding l)
+module _ (c : Config) (ranged : IsInRange c) (l : Line) (s : IsSound c l) (service : Service) (tei : ℕ) (was : Wanted) (asks : IsAskedOf service tei was l) (outstanding : Bool) (owes : IsOwed service tei outstanding l)
     (e : Event) where
   abbrev a : Answer
   a = answer c e l
@@ -39,11 +40,11 @@ module _ (c : Config) (l : Line) (s : IsSound c l) (service : Service) (tei : �
   unmoved : (state : State) (outstanding : Bool) → due service tei [] was false false false outstanding (state_number state) (state_number state) ≡ []
   unmoved state outstanding = grind arith
 
-  abbrev then_asked : Option ℕ → Option ℕ → Bool
-  then_asked from to = cond (is_state 5 to && differ from to) (is_state 4 from) was
+  abbrev then_asked : Option ℕ → Option ℕ → Wanted
+  then_asked from to = then_wanted from to (wish_of c service tei e a) was
 
-  asked-in : (from to : State) → then_asked (told_state from) (told_state to) ≡ cond ((state_number to == 5) && moves from to) (state_number from == 4) was
-  asked-in from to = ap (λ b. cond ((state_number to == 5) && b) (state_number from == 4) was) (differs from to)
+  asked-in : (from to : State) → then_asked (told_state from) (told_state to) ≡ cond ((state_number to == 5) && moves from to) (newly (state_number from == 4)) (with_wish (wish_of c service tei e a) was)
+  asked-in from to = ap (λ b. cond ((state_number to == 5) && b) (newly (state_number from == 4)) (with_wish (wish_of c service tei e a) was)) (differs from to)
 
   abbrev heard : (Control → Bool) → Bool
   heard which = list_any (brings which c service tei) (seen e a)
@@ -83,16 +84,16 @@ module _ (c : Config) (l : Line) (s : IsSound c l) (service : Service) (tei : �
 
     -- one event of the link
     module _ (x : HasOne c service tei e l (line_after c e l) a) where
-      asked-now : (state : State) → Asks state was own.asked → (errors : List ErrorCode) (xid sabme released outstanding : Bool) (to : ℕ)
-          → due service tei errors own.asked xid sabme released outstanding (state_number state) to ≡ due service tei errors was xid sabme released outstanding (state_number state) to
+      asked-now : (state : State) → Asks state was own.asked own.owed → (errors : List ErrorCode) (xid sabme released outstanding : Bool) (to : ℕ)
+          → due service tei errors (wanted_of own) xid sabme released outstanding (state_number state) to ≡ due service tei errors was xid sabme released outstanding (state_number state) to
       asked-now state is errors xid sabme released outstanding to = grind (arith, due)
 
       one-due : Due (state_number own.state) (state_number next.state) (state_number next.state)
-      one-due = grind (arith, event-news, no-event, due, xid_of, sabme_of, released_of, asked-now, one-begins, heard-by, own-is, one-wrong)
+      one-due = grind (arith, event-news, no-event, due, xid_of, sabme_of, released_of, asked-now, one-begins, heard-by, own-is, one-wrong, wanted_of)
 
     -- its deactivation
     ended-due : IsGivenUp c service tei e l (line_after c e l) a → Due (state_number own.state) (state_number next.state) (state_number next.state)
-    ended-due x = grind (arith, event-follows, due, own-is, releases, wrong, ended-heard)
+    ended-due x = grind (arith, event-follows, due, own-is, releases, wrong, ended-heard, asks)
 
     stays-due : Due (state_number own.state) (state_number next.state) (state_number next.state)
     stays-due = go (event-goes c e l service tei s)
@@ -102,23 +103,49 @@ module _ (c : Config) (l : Line) (s : IsSound c l) (service : Service) (tei : �
         go (inr (inl x)) = one-due x
         go (inr (inr x)) = ended-due x
 
-    stays-asked : Asks next.state (then_asked (told_state own.state) (told_state next.state)) next.asked
-    stays-asked = grind (arith, event-goes, Asks, told_state, same, same-state, and-false, asked-in, event-asking, no-event)
+    abbrev AsksThen : Link → Type 0
+    AsksThen y = Asks y.state (then_asked (told_state own.state) (told_state y.state)) y.asked y.owed
 
-  begins-asked : (b : Bool) → next ≡ fresh_link → Asks next.state b next.asked
-  begins-asked b is = subst (λ (y : Link). Asks y.state b y.asked) (sym is) tt
+    none-asks : HasNone c service tei e l (line_after c e l) a → AsksThen next
+    none-asks x =
+        subst AsksThen (sym (same x))
+        (subst (λ w. Asks own.state w own.asked own.owed)
+        (sym (asked-in own.state own.state ∙ ap (λ b. cond ((state_number own.state == 5) && b) (newly (state_number own.state == 4)) (with_wish (wish_of c service tei e a) was)) (same-state own.state)
+        ∙ ap (λ b. cond b (newly (state_number own.state == 4)) (with_wish (wish_of c service tei e a) was)) (and-false (state_number own.state == 5))
+        ∙ ap (λ o. with_wish o was) (none-wish c service tei l place on e x.aims))) asks)
+
+    one-asks : HasOne c service tei e l (line_after c e l) a → AsksThen next
+    one-asks x =
+        let t = terms c service tei in
+        let y = link_after t x.event own in
+        let sound = link-at-end c l ranged s service tei place on in
+        subst AsksThen (sym x.is)
+        (subst (λ w. Asks y.state w y.asked y.owed)
+        (sym (asked-in own.state y.state ∙ ap (λ o. cond ((state_number y.state == 5) && moves own.state y.state) (newly (state_number own.state == 4)) (with_wish o was)) (one-wish c service tei e a x.event x.by)))
+        (event-asking t own was sound.owed x.event (no-event x.event c e a service tei x.by) asks))
+
+    stays-asked : AsksThen next
+    stays-asked = go (event-goes c e l service tei s)
+      where
+        go : Goes c service tei e l (line_after c e l) a → AsksThen next
+        go (inl x) = none-asks x
+        go (inr (inl x)) = one-asks x
+        go (inr (inr x)) = subst AsksThen (sym x.is) tt
+
+  begins-asked : (b : Wanted) → next ≡ fresh_link → Asks next.state b next.asked next.owed
+  begins-asked b is = subst (λ (y : Link). Asks y.state b y.asked y.owed) (sym is) tt
 
   pub event-asks : IsAskedOf service tei (then_asked (state_of service tei l) (state_of service tei (line_after c e l))) (line_after c e l)
   event-asks = go (place_in l tei) refl (place_in (line_after c e l) tei) refl
     where
-      b : Bool
+      b : Wanted
       b = then_asked (state_of service tei l) (state_of service tei (line_after c e l))
 
-      go : (o : Option ℕ) → place_in l tei ≡ o → (p : Option ℕ) → place_in (line_after c e l) tei ≡ p → Asks next.state b next.asked
+      go : (o : Option ℕ) → place_in l tei ≡ o → (p : Option ℕ) → place_in (line_after c e l) tei ≡ p → Asks next.state b next.asked next.owed
       go o on None off = begins-asked b (off-fresh service tei (line_after c e l) off)
       go None off (Some there) still = begins-asked b (comes c e l s service tei off)
       go (Some place) on (Some there) still =
-          subst (λ b. Asks next.state b next.asked)
+          subst (λ b. Asks next.state b next.asked next.owed)
           (sym (ap (λ o. then_asked o (state_of service tei (line_after c e l))) (state-on service tei l place on)
           ∙ ap (λ o. then_asked (told_state own.state) o) (state-on service tei (line_after c e l) there still)))
           (stays-asked place there on still)
@@ -140,7 +167,7 @@ module _ (c : Config) (l : Line) (s : IsSound c l) (service : Service) (tei : �
   gone-due : (place : ℕ) → place_in l tei ≡ Some place → place_in (line_after c e l) tei ≡ None → Due (state_number own.state) 4 1
   gone-due place on gone =
       let off : has_tei tei (line_after c e l) ≡ false = is-off (line_after c e l).management.places tei gone in
-      leaving-due service tei c e l s place on off was outstanding
+      leaving-due service tei c e l s place on off was outstanding asks
       ∙ ap (λ b. due service tei [] was b (heard is_sabme) false outstanding (state_number own.state) 4) (sym (none-brought off (event-goes c e l service tei s)))
       ∙ ap (λ b. due service tei [] was (heard is_xid) (heard is_sabme) b outstanding (state_number own.state) 4) (sym (none-released service tei c e l (on-line l tei place on) off a))
       ∙ ap (λ errors. due service tei errors was (heard is_xid) (heard is_sabme) (releases service tei e a) outstanding (state_number own.state) 4) (sym (no-error off (event-goes c e l service tei s)))

@@ -10,7 +10,8 @@ use Rattle.model_line.proofs.Managed.{IsOwnEvent}
 use Rattle.model_line.specs.Effect.{Effect, at_terminal}
 use Rattle.model_line.specs.Line.{Own}
 use Rattle.model_line.specs.Request.{AskTei, VerifyTei}
-use Rattle.laws_trace.proofs.NewsWatched.{due}
+use Rattle.laws_trace.proofs.NewsWatched.{Wanted, due}
+use Rattle.laws_trace.proofs.NewsOfLink.{Asks}
 use Rattle.laws_trace.proofs.LinkLed.{own-is}
 use Rattle.laws_trace.proofs.ManagingTables.{on-coming, on-leaving}
 use Rattle.laws_trace.proofs.NewsOfOthers.{none-filtered, tei-note, other-link}
@@ -123,8 +124,9 @@ leaves service tei c next l s place on off =
     absurd (true≢false (sym (next-keeps tei c l s (is_on-at l.management.places place tei (place_of-is l.management.places tei place on).1)) ∙ off))
 
 pub leaving-due : (service : Service) (tei : ℕ) (c : Config) (e : Event) (l : Line) → IsSound c l → (place : ℕ) → place_in l tei ≡ Some place → has_tei tei (after c e l) ≡ false
-    → (was outstanding : Bool) → filter (is_news service tei) (notes_of (answer c e l)) ≡ due service tei [] was false false false outstanding (state_number (link_of service tei l).state) 4
-leaving-due service tei c e l s place on off was outstanding = leaves service tei c e l s place on off ∙ (grind (arith, event-follows, due, own-is))
+    → (was : Wanted) (outstanding : Bool) → (let x = link_of service tei l in Asks x.state was x.asked x.owed)
+    → filter (is_news service tei) (notes_of (answer c e l)) ≡ due service tei [] was false false false outstanding (state_number (link_of service tei l).state) 4
+leaving-due service tei c e l s place on off was outstanding asks = leaves service tei c e l s place on off ∙ (grind (arith, event-follows, due, own-is, asks))
 
 -- No request to release a link takes its TEI off the line.
 pub none-released : (service : Service) (tei : ℕ) (c : Config) (e : Event) (l : Line) → has_tei tei l ≡ true → has_tei tei (after c e l) ≡ false → (a : Answer) → releases service tei e a ≡ false

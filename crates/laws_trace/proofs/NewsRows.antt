@@ -1,7 +1,7 @@
 -- What a link tells of establishments, releases and errors, by each frame that it hears.
 use Rattle.laws_trace.proofs.Vocabulary.{arith, ◌≡◌, ℕ, ◌==◌, ◌&&◌, ◌||◌, not, Bool, true, false, cond, List, [], ◌∷◌, ◌++◌, refl, sym, ap, ◌∙◌, All, filter, is_some, All-head, All-tail, Address, ErrorCode, Note, State, AwaitingEstablishment, Established, Terms, undefined, wrong_size, overlong, received, expired, requested, Link, state_number, as_heard, state_after, told_by, numbered_as}
 use Rattle.laws_trace.proofs.Vocabulary.{Control, NoteXid as Xid, LinkEvent as Event, frame, LinkRelease as Release, IsOwn, is_up, is_news, is_sabme, is_xid, wrong_number, wrong_frame, given_up, F, L, N, O, NoteData as Data, Error, EstablishConfirm, EstablishIndication, ReleaseConfirm, ReleaseIndication}
-use Rattle.laws_trace.proofs.NewsWatched.{due}
+use Rattle.laws_trace.proofs.NewsWatched.{Wanted, due}
 use Rattle.laws_trace.proofs.LinkLed.{own-is}
 use Rattle.laws_trace.proofs.MovesOfLink.{is_long}
 use Rattle.laws_trace.proofs.TimerRows.{in_state}
@@ -50,10 +50,14 @@ abbrev pub released_of : Event → Bool
 released_of (requested Release full) = true
 released_of other = false
 
+-- What layer 3 asked for, by the link.
+abbrev pub wanted_of : Link → Wanted
+wanted_of l = record { asked = l.asked; owed = l.owed }
+
 module _ (t : Terms) (l : Link) where
   -- What is told, and what is due.
   abbrev pub Fits : List ErrorCode → Bool → Bool → Bool → State → State → List Note → Type 0
-  Fits errors xid sabme released from to ns = filter is_kind ns ≡ due t.service t.tei errors l.asked xid sabme released (not (l.s == l.a)) (state_number from) (state_number to)
+  Fits errors xid sabme released from to ns = filter is_kind ns ≡ due t.service t.tei errors (wanted_of l) xid sabme released (not (l.s == l.a)) (state_number from) (state_number to)
 
   pub nothing-fits : (here : State) (ns : List Note) → filter is_kind ns ≡ [] → Fits [] false false false here here ns
   nothing-fits here ns none = none ∙ sym (grind arith)
@@ -64,7 +68,7 @@ module _ (t : Terms) (l : Link) where
   information-7 invalid taken = grind arith
 
   -- SABME in states 7 and 8, and UA with F=1 in state 5, by whether contents are outstanding.
-  anew-7 : (none : Bool) → filter is_kind (Error t.service t.tei F ∷ cond none [] (EstablishIndication t.service t.tei ∷ [])) ≡ due t.service t.tei (F ∷ []) l.asked false true false (not none) 7 7
+  anew-7 : (none : Bool) → filter is_kind (Error t.service t.tei F ∷ cond none [] (EstablishIndication t.service t.tei ∷ [])) ≡ due t.service t.tei (F ∷ []) (wanted_of l) false true false (not none) 7 7
   anew-7 none = grind arith
 
   abbrev pub Told : State → Event → Type 0

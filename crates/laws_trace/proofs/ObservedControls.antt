@@ -59,8 +59,8 @@ none-due c w = grind (arith, nothing_due)
 
 -- What is kept while layer 3 asks for something else.
 module _ (service : Service) (tei : ℕ) where
-  pub stays-down : (r : Request) (o : Observed) → is_up o.state ≡ false → is_up (by_request service tei r o).state ≡ false
-  stays-down r o down = grind (arith, cond_both)
+  pub stays-down : (c : Config) (r : Request) (o : Observed) → is_up o.state ≡ false → is_up (by_request c service tei r o).state ≡ false
+  stays-down c r o down = grind (arith, cond_both)
 
   -- layer 3 is as busy as before, unless it says so
   abbrev pub busies : Request → Bool

@@ -11,7 +11,7 @@ use Rattle.laws_trace.proofs.LinksMove.{differ-self}
 use Rattle.laws_trace.proofs.MovesWatched as moves
 use Rattle.laws_trace.proofs.MovesWatched.{repeated}
 use Rattle.laws_trace.proofs.NewsWatched as news
-use Rattle.laws_trace.proofs.NewsWatched.{Owing, owing}
+use Rattle.laws_trace.proofs.NewsWatched.{Wanted, Owing, owing}
 use Rattle.laws_trace.proofs.ObservedAnswers.{is_answered, card-answered}
 use Rattle.laws_trace.proofs.ObservedControls.{by-heard, asked-answers-is, busies, still-busy, none-led, AsBusy, unchanged, as-busy-before}
 use Rattle.laws_trace.proofs.ObservedCount.{Same, Agree}
@@ -30,7 +30,7 @@ use Rattle.laws_trace.proofs.Runs.{apart}
 
 module _ (service : Service) (tei number : ℕ) where
   module _ (card : Card) (s : IsSound card) (timely : AllHaveTheirTimers card) (e : Event) (here : IsAtLine card e)
-      (k : Known) (asked : Bool) (w : Owing) (known_is : w.known ≡ k) (m : ℕ) (v : View) (h : Holds card.config service tei k asked w.outstanding m (line_at number card) v)
+      (k : Known) (asked : Wanted) (w : Owing) (known_is : w.known ≡ k) (m : ℕ) (v : View) (h : Holds card.config service tei k asked w.outstanding m (line_at number card) v)
       (n : ℕ) (busy rejected : Bool) (stands : StandsCalm service tei number n busy rejected (line_at number card)) (agree : Agree v.link (calm n busy rejected)) where
     abbrev c : Config
     c = card.config
@@ -193,7 +193,7 @@ module _ (service : Service) (tei number : ℕ) where
       abbrev l' : Known
       l' = watch c service tei number k its
 
-      abbrev asks' : Bool
+      abbrev asks' : Wanted
       asks' = news.asked service tei number asked its
 
       abbrev owes' : Bool

@@ -31,11 +31,11 @@ module _ (c : Config) (service : Service) (tei : ℕ) where
       go : (b : Bool) → is_terminal c ≡ b → (cond b (at_terminal c (hears e) (nothing_due w)) (managing_by_event c (hears e) (nothing_due w))).on ≡ w.on
       go true is-one =
           ap (λ o. (there o).on)
-          (message-is-read-there c (own_of c (nothing_due w)) e is-one ∙ ap (option_and_then (λ info. seen.by_message info (own_of c (nothing_due w)))) none)
+          (message-is-read-there c (own_of c (nothing_due w)) e is-one ∙ ap (option_and_then (λ info. seen.by_message c info (own_of c (nothing_due w)))) none)
       go false net = ap (λ (v : Managed). v.on) (message-is-read c (nothing_due w) e net ∙ ap (λ m. option_map_or (by_message c (nothing_due w)) m (nothing_due w)) none)
 
   pub granted-busy : (r : Request) (a : Answer) (n : ℕ) (busy rejected : Bool) → is_granted a ≡ true → (standing service tei c (calm n busy rejected) (seen (request r) a)).busy ≡ busy_asked service tei busy r
   granted-busy r a n busy rejected granted = grind arith
 
   pub asked-moves : (r : Request) (a : Answer) (o : Observed) → is_up o.state ≡ false → is_up (by_event c service tei (request r) a o).state ≡ false
-  asked-moves r a o down = cond_both (is_granted a) (by_request service tei r o) o (λ (q : Observed). is_up q.state ≡ false) (λ granted. stays-down service tei r o down) (λ refused. down)
+  asked-moves r a o down = cond_both (is_granted a) (by_request c service tei r o) o (λ (q : Observed). is_up q.state ≡ false) (λ granted. stays-down service tei c r o down) (λ refused. down)

@@ -8,7 +8,7 @@ use Rattle.laws_trace.proofs.DeliveriesRun.{IsCount}
 use Rattle.laws_trace.proofs.DeliveriesWatched.{stand}
 use Rattle.laws_trace.proofs.MovesWatched.{repeated}
 use Rattle.laws_trace.proofs.NewsWatched as news
-use Rattle.laws_trace.proofs.NewsWatched.{Owing, owing}
+use Rattle.laws_trace.proofs.NewsWatched.{Wanted, Owing, owing}
 use Rattle.laws_trace.proofs.ObservedCount.{Agree, stands-behind}
 use Rattle.laws_trace.proofs.ObservedRun.{Holds, holds-then, known-then, is-told}
 use Rattle.laws_trace.proofs.Runs.{nothing-seen}
@@ -44,7 +44,7 @@ module _ (service : Service) (tei number : ℕ) where
       (stands-behind service tei c s.config l (line_sound card e.line (has_lines card s) here) e.what place on n stands.0 busy rejected stands.1 o is agree))
 
   module _ (card : Card) (s : IsSound card) (timely : AllHaveTheirTimers card) (e : Event) (here : IsAtLine card e)
-      (k : Known) (asked : Bool) (w : Owing) (known_is : w.known ≡ k) (m : ℕ) (v : View) (h : Holds card.config service tei k asked w.outstanding m (line_at number card) v)
+      (k : Known) (asked : Wanted) (w : Owing) (known_is : w.known ≡ k) (m : ℕ) (v : View) (h : Holds card.config service tei k asked w.outstanding m (line_at number card) v)
       (n : ℕ) (busy rejected : Bool) (stands : StandsCalm n busy rejected (line_at number card)) (agree : Agree v.link (calm n busy rejected)) where
     abbrev c : Config
     c = card.config
@@ -77,7 +77,7 @@ module _ (service : Service) (tei number : ℕ) where
         by-line (e.line == number) refl (is_on tei (led c number v.teis e)) (is_on tei v.teis) (h.follows.on.same tei ∙ is-told service tei (line_at number card))
 
   pub run-agrees : (card : Card) (events : List Event) → IsSound card → AllHaveTheirTimers card → AreAtLines card events
-      → (k : Known) (asked : Bool) (w : Owing) → w.known ≡ k → (m : ℕ) (v : View) → Holds card.config service tei k asked w.outstanding m (line_at number card) v
+      → (k : Known) (asked : Wanted) (w : Owing) → w.known ≡ k → (m : ℕ) (v : View) → Holds card.config service tei k asked w.outstanding m (line_at number card) v
       → (n : ℕ) (busy rejected : Bool) → StandsCalm n busy rejected (line_at number card) → Agree v.link (calm n busy rejected)
       → Agree (fold (views card.config service tei number) v (moments card events)).link (standing service tei card.config (calm n busy rejected) (trace number (moments card events)))
   unfolding moments after_all

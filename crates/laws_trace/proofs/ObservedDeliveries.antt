@@ -7,6 +7,7 @@ use Rattle.laws_trace.proofs.Deliveries.{frame_by}
 use Rattle.laws_trace.proofs.DeliveriesKept.{run-stands}
 use Rattle.laws_trace.proofs.DeliveriesRun.{IsCount, IsSmall, no-data, event-small, event-told}
 use Rattle.laws_trace.proofs.DeliveriesWatched.{at_first, stand, IsHeard}
+use Rattle.laws_trace.proofs.NewsWatched.{Wanted}
 use Rattle.laws_trace.proofs.ObservedAcknowledged.{agrees-now}
 use Rattle.laws_trace.proofs.ObservedCount.{Same}
 use Rattle.laws_trace.proofs.ObservedFacts.{Facts}
@@ -76,7 +77,7 @@ module _ (service : Service) (tei : ℕ) (c : Config) (ranged : IsInRange c) (l 
       with-data (data-so c ranged l s e service tei place on o n count is
       (λ up. count up ∙ sym (agree (ap is_up is ∙ number-up own.state ∙ up)).count_is) (λ up. stands.busy_is up ∙ sym (agree (ap is_up is ∙ number-up own.state ∙ up)).busy_is))
 
-  told-so : (k : Known) (asked owed : Bool) (m : ℕ) → Facts (state_of service tei l) k asked owed m o → Told c service tei o (brought c service tei e) a
+  told-so : (k : Known) (asked : Wanted) (owed : Bool) (m : ℕ) → Facts (state_of service tei l) k asked owed m o → Told c service tei o (brought c service tei e) a
   told-so k asked owed m facts = go (place_in l tei) refl facts
     where
       go : (p : Option ℕ) → place_in l tei ≡ p → Facts (state_of service tei l) k asked owed m o → Told c service tei o (brought c service tei e) a

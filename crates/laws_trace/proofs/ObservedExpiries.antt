@@ -17,7 +17,7 @@ either o b p q h i = grind arith
 
 module _ (o : Observed) where
   module _ (c : Config) (service : Service) (tei : ℕ) where
-    asked : (r : Request) → IsNoMore o (by_request service tei r o)
+    asked : (r : Request) → IsNoMore o (by_request c service tei r o)
     asked other = grind (arith, either, asked_for, same, is_up)
 
     -- by another event than an expiry of T200

@@ -2,7 +2,7 @@
 use Rattle.laws_trace.proofs.Vocabulary.{arith, ◌≡◌, ℕ, ◌==◌, ◌&&◌, ◌⊎◌, not, Bool, false, cond, Option, Some, None, is_some, nat_le, list_any, Service, State, state_number, Config, Line, state_of, unwrap_or, Control, Observed, View, in_state, is_outstanding, seen, Answer, Event, brings}
 use Rattle.laws_trace.proofs.Deliveries.{frame_by}
 use Rattle.laws_trace.proofs.LinksMove.{same-way}
-use Rattle.laws_trace.proofs.NewsWatched.{owing}
+use Rattle.laws_trace.proofs.NewsWatched.{Wanted, owing}
 use Rattle.laws_trace.proofs.Observed.{IsObserved, IsSeen}
 use Rattle.laws_trace.proofs.ObservedShape.{When, known_of}
 use Rattle.laws_trace.proofs.ObservedRun.{Holds, IsFrom, from-is}
@@ -12,14 +12,14 @@ use Rattle.laws_trace.proofs.States.{is_state, differ}
 use Rattle.laws_trace.proofs.TimersWatched as known
 
 -- What is known, by whether the TEI is on the line.
-abbrev pub Facts : Option ℕ → Known → Bool → Bool → ℕ → Observed → Type 0
+abbrev pub Facts : Option ℕ → Known → Wanted → Bool → ℕ → Observed → Type 0
 Facts st k asked owed n o =
     ((st ≡ None) × (k ≡ nothing_yet) × (o ≡ in_state 1)) ⊎ ((x : State) × (st ≡ Some (state_number x)) × IsObserved (state_number x) k asked owed n o)
 
-pub facts : (c : Config) (service : Service) (tei : ℕ) (k : Known) (asked owed : Bool) (n : ℕ) (l : Line) (v : View) → Holds c service tei k asked owed n l v → Facts (state_of service tei l) k asked owed n v.link
+pub facts : (c : Config) (service : Service) (tei : ℕ) (k : Known) (asked : Wanted) (owed : Bool) (n : ℕ) (l : Line) (v : View) → Holds c service tei k asked owed n l v → Facts (state_of service tei l) k asked owed n v.link
 facts c service tei k asked owed n l v h = grind (arith, from-is, IsFrom, IsSeen)
 
-module _ (st : Option ℕ) (k : Known) (asked owed : Bool) (n : ℕ) (o : Observed) where
+module _ (st : Option ℕ) (k : Known) (asked : Wanted) (owed : Bool) (n : ℕ) (o : Observed) where
   pub told-so : Facts st k asked owed n o → st ≡ cond (is_some st) (Some o.state) None
   told-so o = grind (arith, is_some)
 
@@ -32,8 +32,11 @@ module _ (st : Option ℕ) (k : Known) (asked owed : Bool) (n : ℕ) (o : Observ
   pub owed-is : (x : State) → IsObserved (state_number x) k asked owed n o → is_outstanding o ≡ owed
   owed-is x h = grind (arith, When, Known)
 
-  pub asked-is : (x : State) → IsObserved (state_number x) k asked owed n o → (o.state == 5 && o.asked) ≡ (o.state == 5 && asked)
+  pub asked-is : (x : State) → IsObserved (state_number x) k asked owed n o → (o.state == 5 && o.asked) ≡ (o.state == 5 && asked.asked)
   asked-is x h = grind (arith, When)
+
+  pub wanted-is : (x : State) → IsObserved (state_number x) k asked owed n o → (o.state == 5 && o.owed) ≡ (o.state == 5 && asked.owed)
+  wanted-is x h = grind (arith, When)
 
   -- a TEI that left is in state 4, or none
   pub down-is : Facts st k asked owed n o → nat_le o.state 4 ≡ (unwrap_or st 4 == 4)
@@ -46,7 +49,7 @@ module _ (st : Option ℕ) (k : Known) (asked owed : Bool) (n : ℕ) (o : Observ
   seen-is o = grind arith
 
 -- From one state to another.
-pub differs-is : (st to : Option ℕ) (k l : Known) (asked anew owed owing : Bool) (n m : ℕ) (o p : Observed) → Facts st k asked owed n o → Facts to l anew owing m p
+pub differs-is : (st to : Option ℕ) (k l : Known) (asked anew : Wanted) (owed owing : Bool) (n m : ℕ) (o p : Observed) → Facts st k asked owed n o → Facts to l anew owing m p
     → not (o.state == p.state) ≡ differ st to
 differs-is st to k l asked anew owed owing n m o p x y = grind (arith, differ, same-way)
 

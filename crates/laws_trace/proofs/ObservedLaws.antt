@@ -4,9 +4,9 @@ use Rattle.laws_trace.proofs.Vocabulary.{runs_at_callers, line_at, at, moments, 
 use Rattle.model_line.specs.Event as line_event
 use Rattle.laws_trace.specs.LinksMove.{LinksMove}
 use Rattle.laws_trace.proofs.MovesWatched.{repeated}
-use Rattle.laws_trace.proofs.NewsWatched.{Owing, none_owed, owing}
+use Rattle.laws_trace.proofs.NewsWatched.{Wanted, none_wanted, Owing, none_owed, owing}
 use Rattle.laws_trace.proofs.Observed.{IsObserved}
-use Rattle.laws_trace.proofs.ObservedFacts.{Facts, facts, told-so, numbers-are, state-is, owed-is, asked-is, down-is, up-is, seen-is, differs-is, brings-is}
+use Rattle.laws_trace.proofs.ObservedFacts.{Facts, facts, told-so, numbers-are, state-is, owed-is, asked-is, wanted-is, down-is, up-is, seen-is, differs-is, brings-is}
 use Rattle.laws_trace.proofs.ObservedShape.{known_of}
 use Rattle.laws_trace.proofs.ObservedRun.{Holds, holds-now, holds-behind, is-told}
 use Rattle.laws_trace.proofs.TimersAreTimely.{front-at, itself, config-now, started-law, timers-run}
@@ -30,8 +30,8 @@ module _ (c : Config) (events : List Event) (number : ℕ) (ranged : IsInRange c
   abbrev k : Known
   k = fold (watch c service tei number) nothing_yet (moments (fresh c) events)
 
-  abbrev was_asked : Bool
-  was_asked = fold (news.asked service tei number) false (moments (fresh c) events)
+  abbrev was_asked : Wanted
+  was_asked = fold (news.asked service tei number) none_wanted (moments (fresh c) events)
 
   abbrev w : Owing
   w = fold (owing c service tei number) none_owed (moments (fresh c) events)
@@ -68,7 +68,7 @@ module _ (c : Config) (events : List Event) (number : ℕ) (ranged : IsInRange c
     abbrev l : Known
     l = watch c service tei number k m
 
-    abbrev then_asked : Bool
+    abbrev then_asked : Wanted
     then_asked = news.asked service tei number was_asked m
 
     abbrev x : Owing
@@ -112,8 +112,8 @@ module _ (c : Config) (before : List Event) (number : ℕ) (ranged : IsInRange c
   abbrev its_numbers : Known
   its_numbers = fold (watch c service tei number) nothing_yet (moments (fresh c) before)
 
-  abbrev its_asked : Bool
-  its_asked = fold (news.asked service tei number) false (moments (fresh c) before)
+  abbrev its_asked : Wanted
+  its_asked = fold (news.asked service tei number) none_wanted (moments (fresh c) before)
 
   abbrev its_owed : Bool
   its_owed = (fold (owing c service tei number) none_owed (moments (fresh c) before)).outstanding
@@ -151,7 +151,8 @@ module _ (c : Config) (before : List Event) (number : ℕ) (ranged : IsInRange c
       let up : (now.state == 7) ≡ (unwrap_or to 4 == 7) = up-is to _ _ _ _ now its in
       let stood : now.state ≡ unwrap_or to 1 = seen-is to _ _ _ _ now its in
       let was_owed : is_outstanding was ≡ its_owed = owed-is from its_numbers its_asked its_owed its_count was x h in
-      let had_asked : (was.state == 5 && was.asked) ≡ (was.state == 5 && its_asked) = asked-is from its_numbers its_asked its_owed its_count was x h in
+      let had_asked : (was.state == 5 && was.asked) ≡ (was.state == 5 && its_asked.asked) = asked-is from its_numbers its_asked its_owed its_count was x h in
+      let had_wanted : (was.state == 5 && was.owed) ≡ (was.state == 5 && its_asked.owed) = wanted-is from its_numbers its_asked its_owed its_count was x h in
       let an_xid = brings-is c service tei now_news.is_xid what its_moment.answer in
       let a_sabme = brings-is c service tei now_news.is_sabme what its_moment.answer in
       let began : was.state ≡ state_number x = h.state_is in
@@ -186,7 +187,7 @@ module _ (c : Config) (events : List Event) (number : ℕ) (ranged : IsInRange c
       ++ now_news.due service tei (now_news.brings now_news.is_xid c service tei what) (now_news.brings now_news.is_sabme c service tei what) (now_news.releases service tei what a) o to)
 
   news-so : Facts (state_of service tei (line_at number (after_all (fresh c) before))) (fold (watch c service tei number) nothing_yet (moments (fresh c) before))
-      (fold (news.asked service tei number) false (moments (fresh c) before)) (fold (owing c service tei number) none_owed (moments (fresh c) before)).outstanding
+      (fold (news.asked service tei number) none_wanted (moments (fresh c) before)) (fold (owing c service tei number) none_owed (moments (fresh c) before)).outstanding
       (fold (repeated service tei number) 0 (moments (fresh c) before)) (view_of c service tei number before).link → IsDue (o.state == 1)
   news-so (inl y) =
       subst IsDue (sym (ap (λ (o : Observed). o.state == 1) y.2)) (old_news.none-is-told c before number ranged front within service tei what y.0)

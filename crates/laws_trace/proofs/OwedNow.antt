@@ -13,7 +13,7 @@ use Rattle.laws_trace.proofs.DeliveriesWatched.{Standing, at_first as watched_fi
 use Rattle.laws_trace.proofs.LinkLed.{on-line}
 use Rattle.laws_trace.proofs.LinksMove.{differ-self, none-expires}
 use Rattle.laws_trace.proofs.MovesWatched.{repeated}
-use Rattle.laws_trace.proofs.NewsWatched.{none_owed, owing, asked}
+use Rattle.laws_trace.proofs.NewsWatched.{none_wanted, none_owed, owing, asked}
 use Rattle.laws_trace.proofs.ObservedAcknowledged.{agrees-now}
 use Rattle.laws_trace.proofs.ObservedControlsMoment.{puts-by}
 use Rattle.laws_trace.proofs.ObservedControlsSeen.{none-mapped}
@@ -139,7 +139,7 @@ module _ (c : Config) (number : ℕ) (ranged : IsInRange c) (within : number < c
         let ms = moments (fresh c) before in
         subst (λ (d : Config). Puts d ≡ put_in d service tei o (views d service tei number v its-moment).link its-moment) same-config
         (puts-by service tei number m (sound-now c before number ranged all within service tei) (timely-now c before number ranged all within service tei) (at number what) (here-at c number ranged within service tei before all)
-        (fold (watch c service tei number) known_first ms) (fold (asked service tei number) false ms) (fold (owing c service tei number) none_owed ms)
+        (fold (watch c service tei number) known_first ms) (fold (asked service tei number) none_wanted ms) (fold (owing c service tei number) none_owed ms)
         (known-is c before number ranged all within service tei ms known_first none_owed refl) (fold (repeated service tei number) 0 ms) v (holds-here c before number ranged all within service tei)
         w.told.count w.busy w.rejected (stands.1, stands.2) (agrees-now c before number ranged all within service tei) true (eq-eqb number number refl)
         ∙ ap (λ b. cond (not b) (put_in m.config service tei o (views m.config service tei number v its-moment).link its-moment) []) (ap (λ s. s == 1) was-state ∙ not-one (link_of service tei l).state))

@@ -1,5 +1,5 @@
 -- What an event shows of the places of a link: data that is granted, and that layer 3 learns of a loss.
-use Rattle.laws_trace.proofs.Vocabulary.{arith, ◌≡◌, ℕ, Bool, false, cond, List, [], ◌++◌, ◌||◌, append-nil, flat_map, list_any, Service, Timer, is_release, Answer, hears, expiry, request, next, Deactivate, notes_of, is_loss_of, is_granted, Event, LineTold, told, Request, Release, of_link, Seen, data_asked, granted, trace_noted as noted, is_own, seen, seen_told, seen_granted, and-false}
+use Rattle.laws_trace.proofs.Vocabulary.{arith, ◌≡◌, ℕ, Bool, false, cond, List, [], ◌++◌, ◌||◌, append-nil, flat_map, list_any, Service, Timer, gives_up, Establish, Answer, hears, expiry, request, next, Deactivate, notes_of, is_loss_of, is_granted, Event, LineTold, told, Request, Release, of_link, Seen, data_asked, granted, trace_noted as noted, is_own, seen, seen_told, seen_granted, and-false}
 use Rattle.laws_trace.proofs.Vocabulary.{or-false}
 use Rattle.laws_trace.proofs.Vocabulary.{and-true, LinkRequest, StreamEvent}
 use Rattle.laws_trace.specs.Outgoing as outgoing
@@ -10,13 +10,14 @@ abbrev pub data_granted : Service → ℕ → Seen → List (List ℕ)
 data_granted service tei (granted r) = data_asked service tei r
 data_granted service tei other = []
 
-abbrev pub is_release_of : Service → ℕ → Request → Bool
-is_release_of service tei (Release of by) = is_own service tei of by
-is_release_of service tei (Deactivate of by) = is_own service tei of by
-is_release_of service tei other = false
+abbrev pub gives_up_of : Service → ℕ → Request → Bool
+gives_up_of service tei (Establish of by) = is_own service tei of by
+gives_up_of service tei (Release of by) = is_own service tei of by
+gives_up_of service tei (Deactivate of by) = is_own service tei of by
+gives_up_of service tei other = false
 
 abbrev pub shows_loss : Service → ℕ → Seen → Bool
-shows_loss service tei (granted r) = is_release_of service tei r
+shows_loss service tei (granted r) = gives_up_of service tei r
 shows_loss service tei (noted ns contents) = list_any (is_loss_of service tei) ns
 shows_loss service tei other = false
 
@@ -33,7 +34,7 @@ module _ (service : Service) (tei : ℕ) where
   pub asked-grants : (r : Request) (a : Answer) → granted_in (seen_granted r a ++ seen_told a) ≡ cond (is_granted a) (data_asked service tei r) []
   asked-grants r a = grind (arith, append-nil)
 
-  -- A note of a loss is seen, and so is a release that is granted.
+  -- A note of a loss is seen, and so is an establishment or a release that is granted.
   alone : (b : Bool) → (b || (false || false)) ≡ b
   alone b = grind arith
 
@@ -43,10 +44,10 @@ module _ (service : Service) (tei : ℕ) where
   pub expiry-loses : (timer : Timer) (a : Answer) → lost_in (seen (expiry timer) a) ≡ list_any (is_loss_of service tei) (notes_of a)
   expiry-loses timer a = grind (arith, alone)
 
-  pub asked-loses : (r : Request) (a : Answer) → lost_in (seen (request r) a) ≡ cond (is_granted a) (is_release_of service tei r || list_any (is_loss_of service tei) (notes_of a)) false
+  pub asked-loses : (r : Request) (a : Answer) → lost_in (seen (request r) a) ≡ cond (is_granted a) (gives_up_of service tei r || list_any (is_loss_of service tei) (notes_of a)) false
   asked-loses r a = grind (arith, alone)
 
-  pub own-release : (what : LinkRequest) → is_release_of service tei (of_link service tei what) ≡ is_release what
+  pub own-release : (what : LinkRequest) → gives_up_of service tei (of_link service tei what) ≡ gives_up what
   own-release what = grind (arith, own-is)
 
   -- So it is by the event and its answer.

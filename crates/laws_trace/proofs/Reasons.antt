@@ -1,6 +1,6 @@
 -- Why a request is refused: the first row of the table that holds is the first reason to an observer.
 use Rattle.laws_trace.proofs.Vocabulary.{◌≡◌, ℕ, ◌&&◌, ◌||◌, ◌<◌, Bool, true, false, true≢false, lt-ltb, le-ltb, arith, not, cond, nat_le, nat_lt, List, length, Option, Some, None, is_some, option_map, refl, sym, ap, ◌∙◌, subst, Config, Line, has_tei, link_of, queue_of, Card, line_at}
-use Rattle.laws_trace.proofs.Vocabulary.{is_full, refusal, fresh, after_all, AreAtLines, IsInRange, units_of, config-stays, length-map, unit_frame, Side, Refusal, Link, state_number, is_multiple_frame, is_up, view_of, outgoing_of}
+use Rattle.laws_trace.proofs.Vocabulary.{is_full, refusal, fresh, after_all, AreAtLines, IsInRange, units_of, config-stays, length-map, unit_frame, Side, Refusal, Link, state_number, is_multiple_frame, is_up, view_of, outgoing_of, Observed, ◌==◌}
 use Rattle.laws_trace.proofs.Vocabulary.{Service, IsSound, last_unit_tei, used, manages, has_management, Managed, managed_after, managing_is_on as is_on, CardEvent as Event, free_place, Request, request}
 use Rattle.lapd_frame.specs.declared.refusals.Refusal.TheVariants.{BadTei, NoLink, WrongState, TooLong, QueueFull, PoolFull, TeiTaken, TableFull}
 use Rattle.model_teis.specs.declared.network.check.Check as check
@@ -19,7 +19,7 @@ use Rattle.laws_trace.proofs.Known.{Knows, knows-now}
 use Rattle.laws_trace.proofs.LineAtEnd.{line-at-end}
 use Rattle.laws_trace.proofs.ManagingTables.{free-fewer, none-free, used-same}
 use Rattle.laws_trace.proofs.Outgoing.{kept-now}
-use Rattle.laws_trace.proofs.RequestsRefused.{serves-establish, serves-release}
+use Rattle.laws_trace.proofs.RequestsRefused.{opens_in, ends_in, opens-is, ends-is}
 use Rattle.laws_trace.proofs.SeenAs.{seen-before}
 use Rattle.laws_trace.proofs.SlotsTaken.{taken-is}
 use Rattle.laws_trace.proofs.UnitsGoOut.{waiting-is}
@@ -148,11 +148,17 @@ module _ (c : Config) (events : List Event) (number : ℕ) (ranged : IsInRange c
     abbrev own : Link
     own = link_of service tei l
 
+    abbrev seen : Observed
+    seen = (view_of c service tei number events).link
+
     abbrev its : ℕ
     its = (view_of c service tei number events).link.state
 
     state-seen : has_tei tei l ≡ true → its ≡ state_number own.state
     state-seen on = let p = at-some-place l tei on in (seen-before c events number ranged all within service tei p.0 p.1).state_is
+
+    owed-seen : has_tei tei l ≡ true → (state_number own.state == 5) ≡ true → seen.owed ≡ own.owed
+    owed-seen on is = let p = at-some-place l tei on in (seen-before c events number ranged all within service tei p.0 p.1).owed_is is
 
     kept-seen : has_tei tei l ≡ true → queue_of own ≡ (outgoing_of c service tei number events).kept
     kept-seen on = let p = at-some-place l tei on in sym (kept-now c number ranged within service tei events all p.0 p.1)
@@ -161,10 +167,12 @@ module _ (c : Config) (events : List Event) (number : ℕ) (ranged : IsInRange c
     not-up on = ap not (sym (ap is_up (state-seen on) ∙ number-up own.state))
 
     establish-same : Same (Establish service tei)
-    establish-same = grind (arith, of-link, if-same, state-seen, serves-establish)
+    establish-same = of-link tei _ _ (λ on. if-same _ _ WrongState _ _ (ap not (sym (ap (opens_in c.reading) (state-seen on) ∙ opens-is c.reading own.state own.owed))) refl)
 
     release-same : Same (Release service tei)
-    release-same = grind (arith, of-link, if-same, is_up, state-seen, serves-release)
+    release-same =
+        of-link tei _ _ (λ on. if-same _ _ WrongState _ _
+        (ap not (sym (ap (λ n. ends_in c.reading n seen.owed) (state-seen on) ∙ ends-is c.reading own.state own.owed seen.owed (owed-seen on)))) refl)
 
     data-same : (contents : List ℕ) → Same (Data service tei contents)
     data-same contents =

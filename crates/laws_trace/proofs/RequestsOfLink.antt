@@ -1,8 +1,11 @@
 -- What each request is to a link as it stands, and what is known of the link behind it where it is granted.
 use Rattle.laws_trace.proofs.Vocabulary.{◌≡◌, ℕ, ◌+◌, ◌-◌, ◌<◌, ◌≤◌, ◌==◌, ◌||◌, Bool, true, false, not, cond, nat_le, nat_lt, list_any, List, [], ◌∷◌, ◌++◌, length, take, filter, refl, sym, leb-true, leb-false, le-ltb, ap, ◌∙◌, arith, eq-eqb, eqb-true, append-nil, any-filter_same, Note, Service, ControlFrame, Config, Answer, lost_in, is_loss_of, is_granted, deactivates, Card, at}
-use Rattle.laws_trace.proofs.Vocabulary.{managing_is_on as is_on, due, is_news, Observed, in_state, observer_by_request, Outgoing, watches, is_empty, is_up, request, Request, Moment, State, state_number, keeps, put_in, changed, command_of, enters, steps, went_on, as_command, Sabme, Disc, ReleaseConfirm, ReleaseIndication, trace_frame_in as frame_in}
+use Rattle.laws_trace.proofs.Vocabulary.{awaits_release, decides, managing_is_on as is_on, due, is_news, Observed, in_state, observer_by_request, Outgoing, watches, is_empty, is_up, request, Request, Moment, State, state_number, keeps, put_in, changed, command_of, enters, steps, went_on, as_command, Sabme, Disc, ReleaseConfirm, ReleaseIndication, trace_frame_in as frame_in}
 use Rattle.std.proofs.Math.Seq.{take-nil, take-append-add}
 use Rattle.std.proofs.lemmas.List.{take_all}
+use Rattle.lapd_frame.specs.declared.readings.Reading.{Reading}
+use Rattle.lapd_frame.specs.declared.readings.Reading.TheVariants.{Profile, AnnexB}
+use Rattle.lapd_frame.specs.Readings.{by_reading}
 use Rattle.laws_trace.specs.News as news
 
 -- Frames come behind others as far as there are places.
@@ -55,6 +58,21 @@ sabme-put w is = ap (λ n. cond (not (n == 5) || nat_lt w.expiries 0) (as_comman
 pub disc-put : (w : Observed) → is_up w.state ≡ true → put_by w (in_state 6) ≡ as_command (Disc true)
 disc-put w up = ap (λ b. cond (not b || nat_lt w.expiries 0) (as_command (Disc true)) []) (not-at w.state 6 (omega arith) up)
 
+-- Layer 3 decides in state 5: nothing is put, and nothing told.
+pub decided-put : (c : Config) (establish : Bool) (w : Observed) → w.state ≡ 5 → put_by w (decides c establish w) ≡ []
+decided-put c establish w is = go c.reading
+  where
+    go : (r : Reading) → put_by w (by_reading r w (record w { asked = establish; owed = not establish; outstanding = false })) ≡ []
+    go Profile = still w
+    go AnnexB = grind (arith, eq-eqb, still)
+
+pub decided-state : (c : Config) (establish : Bool) (w : Observed) → (decides c establish w).state ≡ w.state
+decided-state c establish w = go c.reading
+  where
+    go : (r : Reading) → (by_reading r w (record w { asked = establish; owed = not establish; outstanding = false })).state ≡ w.state
+    go Profile = refl
+    go AnnexB = refl
+
 pub no-entry : (w : Observed) (busy : Bool) → enters w (record w { own_busy = busy }) ≡ false
 no-entry w busy = ap (λ b. not b || nat_lt w.expiries w.expiries) (eq-eqb w.state w.state refl) ∙ le-ltb w.expiries w.expiries (omega arith)
 
@@ -65,11 +83,14 @@ module _ (service : Service) (tei : ℕ) where
   pub up-told : (w now : Observed) → is_up w.state ≡ true → now.state ≡ w.state → told_by service tei false w now ≡ []
   up-told w now up same = grind (arith, not-at, not-below)
 
+  pub decided-told : (c : Config) (released establish : Bool) (w : Observed) → w.state ≡ 5 → told_by service tei released w (decides c establish w) ≡ []
+  decided-told c released establish w is = grind (arith, decided-state)
+
   pub released-told : (w : Observed) → w.state ≡ 4 → told_by service tei true w w ≡ ReleaseConfirm service tei ∷ []
   released-told w is = grind arith
 
   pub ended-told : (w : Observed) (x : State) → w.state ≡ state_number x
-      → told_by service tei false w (in_state 4) ≡ cond (w.state == 4) [] (cond (w.state == 6) (ReleaseConfirm service tei ∷ []) (ReleaseIndication service tei ∷ []))
+      → told_by service tei false w (in_state 4) ≡ cond (w.state == 4) [] (cond (awaits_release w) (ReleaseConfirm service tei ∷ []) (ReleaseIndication service tei ∷ []))
   ended-told w x is = grind arith
 
 pub no-steps : (a : ℕ) → steps a a ≡ 0
@@ -90,7 +111,7 @@ module _ (c : Config) (number : ℕ) (service : Service) (tei : ℕ) (o : Outgoi
   pub teis-then : is_on tei then.view.teis ≡ true
   teis-then = grind (arith, eq-eqb)
 
-  pub link-then : then.view.link ≡ observer_by_request service tei r o.view.link
+  pub link-then : then.view.link ≡ observer_by_request c service tei r o.view.link
   link-then = grind (arith, eq-eqb, teis-then)
 
   pub waiting-then : deactivates service tei (request r) ≡ false → (fs : List ControlFrame) → put_in c service tei o.view.link then.view.link m ≡ fs → then.waiting ≡ o.waiting ++ take (length fs - lost_in a) fs
@@ -99,5 +120,5 @@ module _ (c : Config) (number : ℕ) (service : Service) (tei : ℕ) (o : Outgoi
   pub waiting-ended : deactivates service tei (request r) ≡ true → then.waiting ≡ []
   waiting-ended ends = grind (arith, eq-eqb, teis-then)
 
-  pub kept-then : then.kept ≡ keeps c service tei o.view.link (observer_by_request service tei r o.view.link) (request r) a o.kept
+  pub kept-then : then.kept ≡ keeps c service tei o.view.link (observer_by_request c service tei r o.view.link) (request r) a o.kept
   kept-then = grind (arith, eq-eqb, teis-then, link-then)

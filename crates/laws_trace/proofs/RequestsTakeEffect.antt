@@ -2,14 +2,17 @@
 use Rattle.laws_trace.proofs.Vocabulary.{◌≡◌, ℕ, ◌+◌, ◌-◌, ◌<◌, ◌≤◌, ⊎_elim, ◌==◌, ◌&&◌, ◌||◌, Bool, true, false, cond, nat_le, nat_lt, list_any, List, Option, [], ◌∷◌, ◌++◌, length, take, drop, filter, Some, None, Ok, Err, Result, refl, sym, ap, ◌∙◌, subst, arith, eqb-true, append-nil, All-nil, All-cons, All-append, Note, Service, Refusal, ControlFrame, Config, Answer, Line, link_of, has_tei}
 use Rattle.laws_trace.proofs.Vocabulary.{unless_refused_told, of_request, queue_of, IsInRange, lost_in, notes_of, is_loss_of, is_granted, deactivates, Card, line_at, is_full, at, fresh, refusal, refused_by_the_table, answer_is, CardEvent as Event, after_all, IsAtLine, AreAtLines, managing_is_on as is_on, due, nothing_due, releases, is_news, Observed, View, in_state, moment_of, view_of, views}
 use Rattle.laws_trace.proofs.Vocabulary.{observer_by_request, Outgoing, outgoing_of, watches, is_empty, is_own, is_up, Always, request, Request, Establish, Release, Data, SetBusy, ClearBusy, Deactivate, Moment, state_number, is_multiple_frame, result_err, keeps, config-stays, used, of_link, LinkRequest, LinkEstablish, LinkRelease, LinkData, LinkSetBusy, LinkClearBusy, put_in, changed, went_on}
-use Rattle.laws_trace.proofs.Vocabulary.{data_granted, Link, as_command, Sabme, Disc, ReleaseConfirm}
+use Rattle.laws_trace.proofs.Vocabulary.{asked_for, by_establish, by_release, decides, asks_establishment, Terms, terms, State, TeiAssigned, data_granted, Link, as_command, Sabme, Disc, ReleaseConfirm}
 use Rattle.model_line.specs.Line.{is_terminal}
 use Rattle.model_card.specs.Card.{state}
 use Rattle.model_link.specs.Requests.{serves}
+use Rattle.std.proofs.lemmas.List.{drop_all}
+use Rattle.model_link.specs.Sound as link_sound
 use Rattle.laws_trace.specs.News as news
 use Rattle.laws_trace.specs.NoLossInVain.{puts_by}
 use Rattle.laws_trace.specs.NoSlotIsLost.{slots_taken}
-use Rattle.laws_trace.specs.RequestsTakeEffect.{Effect, IsAnswered, RequestsTakeEffect, effect, deactivated, of_tei, puts}
+use Rattle.laws_trace.specs.RequestsTakeEffect.{Effect, IsAnswered, RequestsTakeEffect, decided, effect, deactivated, of_tei, puts}
+use Rattle.laws_trace.specs.Reasons.{may_establish, may_release}
 use Rattle.laws_trace.proofs.Addressed.{at-some-place}
 use Rattle.laws_trace.proofs.Facts.{either-none, number-up}
 use Rattle.laws_trace.proofs.LinkLed.{own-is}
@@ -22,8 +25,16 @@ use Rattle.laws_trace.proofs.Plain.{all-wait}
 use Rattle.laws_trace.proofs.SeenAs.{seen-before, tei-seen}
 use Rattle.laws_trace.proofs.SlotsTaken.{taken-is}
 use Rattle.laws_trace.proofs.WaitingNow.{waiting-now}
-use Rattle.laws_trace.proofs.RequestsRefused.{same-ok, served, either-served, room-served, there, by-state, by-either, by-room, by-tei, serves-establish, serves-release}
-use Rattle.laws_trace.proofs.RequestsOfLink.{as-many, losses, put_by, told_by, still, sabme-put, disc-put, busy-put, up-told, released-told, ended-told, no-went, teis-then, link-then, waiting-then, waiting-ended, kept-then}
+use Rattle.laws_trace.proofs.RequestsRefused.{same-ok, served, either-served, third-served, room-served, there, by-state, by-either, by-third, by-room, by-tei, opens_in, ends_in, serves-establish, serves-release, opens-at, ends-at}
+use Rattle.laws_trace.proofs.RequestsOfLink.{as-many, decided-put, decided-told, losses, put_by, told_by, still, sabme-put, disc-put, busy-put, up-told, released-told, ended-told, no-went, teis-then, link-then, waiting-then, waiting-ended, kept-then}
+
+-- In state 4 nothing is kept.
+empty-down : (t : Terms) (x : Link) → link_sound.IsSound t x → (state_number x.state == 4) ≡ true → queue_of x ≡ []
+empty-down t x sound is = go x.state refl is sound.settled
+  where
+    go : (s : State) → x.state ≡ s → (state_number s == 4) ≡ true → link_sound.IsSettledIn s x → queue_of x ≡ []
+    go TeiAssigned at is settled = drop_all x.a x.contents (omega (arith, settled))
+    go s at is settled = absurd (grind arith)
 
 -- What follows, one fact after the other.
 record TakesEffect (service : Service) (tei : ℕ) (a : Answer) (told_state : Option ℕ) (now : Outgoing) (e : Effect) : Type 0 where
@@ -78,7 +89,7 @@ module _ (c : Config) (events : List Event) (number : ℕ) (ranged : IsInRange c
     now-is = then-is c number ranged within service tei events (at number (request r))
 
     abbrev next : Observed
-    next = observer_by_request service tei r o.view.link
+    next = observer_by_request c service tei r o.view.link
 
     link : now.view.link ≡ next
     link = ap (λ (n : Outgoing). n.view.link) now-is ∙ link-then c number service tei o card r a same on so
@@ -158,6 +169,9 @@ module _ (c : Config) (events : List Event) (number : ℕ) (ranged : IsInRange c
     state-seen : o.view.link.state ≡ state_number own.state
     state-seen = let p = at-some-place l tei on in ap (λ (v : View). v.link.state) view ∙ (seen-before c events number ranged all within service tei p.0 p.1).state_is
 
+    owed-seen : (state_number own.state == 5) ≡ true → o.view.link.owed ≡ own.owed
+    owed-seen is = let p = at-some-place l tei on in ap (λ (v : View). v.link.owed) view ∙ (seen-before c events number ranged all within service tei p.0 p.1).owed_is is
+
     kept-seen : o.kept ≡ queue_of own
     kept-seen = let p = at-some-place l tei on in kept-now c number ranged within service tei events all p.0 p.1
 
@@ -166,11 +180,13 @@ module _ (c : Config) (events : List Event) (number : ℕ) (ranged : IsInRange c
 
   refusal-is : (asked : LinkRequest) → refusal card.config (is_full card) (of_link service tei asked) l ≡ result_err (of_tei tei o (effect c full service tei o asked))
   refusal-is LinkEstablish =
-      by-state (nat_lt 126 tei) (has_tei tei l) (is_on tei o.view.teis) (serves own.state LinkEstablish) (o.view.link.state == 4) _ on-is
-      (λ on. ap (λ n. n == 4) (state-seen on) ∙ serves-establish own.state)
+      ap (λ (d : Config). refusal d (is_full card) (Establish service tei) l) (config-stays (fresh c) events)
+      ∙ by-either (nat_lt 126 tei) (has_tei tei l) (is_on tei o.view.teis) (serves c.reading own.state own.owed LinkEstablish) (may_establish c o.view.link) (o.view.link.state == 4) _ _ on-is
+      (λ on. ap (λ n. n == 4 || opens_in c.reading n) (state-seen on) ∙ serves-establish c.reading own.state own.owed)
   refusal-is LinkRelease =
-      by-either (nat_lt 126 tei) (has_tei tei l) (is_on tei o.view.teis) (serves own.state LinkRelease) (o.view.link.state == 4) (is_up o.view.link.state) _ _ on-is
-      (λ on. ap (λ n. is_up n || n == 4) (state-seen on) ∙ serves-release own.state)
+      ap (λ (d : Config). refusal d (is_full card) (Release service tei) l) (config-stays (fresh c) events)
+      ∙ by-third (nat_lt 126 tei) (has_tei tei l) (is_on tei o.view.teis) (serves c.reading own.state own.owed LinkRelease) (may_release c o.view.link) (o.view.link.state == 4) (is_up o.view.link.state) _ _ _ on-is
+      (λ on. ap (λ n. is_up n || (n == 4 || ends_in c.reading n o.view.link.owed)) (state-seen on) ∙ serves-release c.reading own.state own.owed o.view.link.owed (owed-seen on))
   refusal-is (LinkData contents) =
       ap (λ (d : Config). refusal d (is_full card) (Data service tei contents) l) (config-stays (fresh c) events)
       ∙ by-room (nat_lt 126 tei) (has_tei tei l) (is_on tei o.view.teis) (is_multiple_frame own.state) (is_up o.view.link.state) (nat_lt c.n201 (length contents))
@@ -191,6 +207,13 @@ module _ (c : Config) (events : List Event) (number : ℕ) (ranged : IsInRange c
     abbrev w : Observed
     w = o.view.link
 
+    none-kept : w.state ≡ 4 → o.kept ≡ []
+    none-kept is =
+        let its_own : has_tei tei l ≡ true = sym on-is ∙ on in
+        let p = at-some-place l tei its_own in
+        let sound = link-at-end c l ranged (line-at-end c events number ranged all within) service tei p.0 p.1 in
+        kept-seen its_own ∙ empty-down (terms c service tei) own sound (ap (λ n. n == 4) (sym (state-seen its_own)) ∙ ap (λ n. n == 4) is)
+
     abbrev fine : Request → Type 0
     fine r = refusal card.config (is_full card) r l ≡ None
 
@@ -198,11 +221,13 @@ module _ (c : Config) (events : List Event) (number : ℕ) (ranged : IsInRange c
     unfolding Effective
     establish-takes unrefused is =
         let at_4 : w.state ≡ 4 = eqb-true w.state 4 is in
+        let its_answer = (moment_of c events number (request (Establish service tei))).answer in
+        let granted_so : is_granted its_answer ≡ true = so (Establish service tei) the-same on unrefused in
+        let opened : asks_establishment service tei (request (Establish service tei)) its_answer ≡ true = ap (λ b. b && is_own service tei service tei) granted_so ∙ own-is service tei in
         gives (Establish service tei) the-same on unrefused (record (puts c (as_command (Sabme true)) o) { link = record (in_state 5) { asked = true } }) refl
-        (ap (λ b. cond (b && w.state == 4) (record (in_state 5) { asked = true }) w) (own-is service tei) ∙ ap (λ b. cond b (record (in_state 5) { asked = true }) w) is)
+        (ap (λ b. cond b (by_establish c w) w) (own-is service tei) ∙ ap (λ b. cond b asked_for (cond (w.state == 5) (decides c true w) w)) is)
         (ap (λ fs. take c.control (o.waiting ++ fs)) (sabme-put w at_4)) (either-none (w.state == 1))
-        (λ none. ap (λ b. cond b [] (cond (is_up w.state) (drop (went_on false w (record (in_state 5) { asked = true })) o.kept ++ []) o.kept)) none
-        ∙ ap (λ n. cond (is_up n) (drop (went_on false w (record (in_state 5) { asked = true })) o.kept ++ []) o.kept) at_4)
+        (λ lost. grind (arith, opened, none-kept at_4))
 
     released-takes : fine (Release service tei) → (w.state == 4) ≡ true → Effective (Release service tei) (record (puts c [] o) { kept = []; told = ReleaseConfirm service tei ∷ [] })
     unfolding Effective
@@ -212,7 +237,7 @@ module _ (c : Config) (events : List Event) (number : ℕ) (ranged : IsInRange c
         let granted_so : is_granted its_answer ≡ true = so (Release service tei) the-same on unrefused in
         let own : releases service tei (request (Release service tei)) its_answer ≡ true = ap (λ b. b && is_own service tei service tei) granted_so ∙ own-is service tei in
         gives (Release service tei) the-same on unrefused (record (puts c [] o) { kept = []; told = ReleaseConfirm service tei ∷ [] }) refl
-        (ap (λ b. cond (b && is_up w.state) (in_state 6) w) (own-is service tei) ∙ ap (λ n. cond (is_up n) (in_state 6) w) at_4)
+        (ap (λ b. cond b (by_release c w) w) (own-is service tei) ∙ ap (λ n. cond (is_up n) (in_state 6) (cond (n == 5) (decides c false w) w)) at_4)
         (ap (λ fs. take c.control (o.waiting ++ fs)) (still w)) (ap (λ b. told_by service tei b w w) own ∙ released-told service tei w at_4)
         (λ lost. grind (arith, own))
 
@@ -223,8 +248,29 @@ module _ (c : Config) (events : List Event) (number : ℕ) (ranged : IsInRange c
         let granted_so : is_granted its_answer ≡ true = so (Release service tei) the-same on unrefused in
         let own : releases service tei (request (Release service tei)) its_answer ≡ true = ap (λ b. b && is_own service tei service tei) granted_so ∙ own-is service tei in
         gives (Release service tei) the-same on unrefused (record (puts c (as_command (Disc true)) o) { link = in_state 6; kept = [] }) refl
-        (ap (λ b. cond (b && is_up w.state) (in_state 6) w) (own-is service tei) ∙ ap (λ b. cond b (in_state 6) w) up)
+        (ap (λ b. cond b (by_release c w) w) (own-is service tei) ∙ ap (λ b. cond b (in_state 6) (cond (w.state == 5) (decides c false w) w)) up)
         (ap (λ fs. take c.control (o.waiting ++ fs)) (disc-put w up)) (either-none (w.state == 1)) (λ none. grind (arith, own))
+
+    -- In state 5 layer 3 decides.
+    decides-open : fine (Establish service tei) → w.state ≡ 5 → Effective (Establish service tei) (decided c true o)
+    unfolding Effective
+    decides-open unrefused is =
+        let its_answer = (moment_of c events number (request (Establish service tei))).answer in
+        let granted_so : is_granted its_answer ≡ true = so (Establish service tei) the-same on unrefused in
+        let own : asks_establishment service tei (request (Establish service tei)) its_answer ≡ true = ap (λ b. b && is_own service tei service tei) granted_so ∙ own-is service tei in
+        gives (Establish service tei) the-same on unrefused (decided c true o) refl
+        (ap (λ b. cond b (by_establish c w) w) (own-is service tei) ∙ ap (λ n. cond (n == 4) asked_for (cond (n == 5) (decides c true w) w)) is)
+        (ap (λ fs. take c.control (o.waiting ++ fs)) (decided-put c true w is)) (decided-told service tei c false true w is) (λ lost. grind (arith, own))
+
+    decides-end : fine (Release service tei) → w.state ≡ 5 → Effective (Release service tei) (decided c false o)
+    unfolding Effective
+    decides-end unrefused is =
+        let its_answer = (moment_of c events number (request (Release service tei))).answer in
+        let granted_so : is_granted its_answer ≡ true = so (Release service tei) the-same on unrefused in
+        let own : releases service tei (request (Release service tei)) its_answer ≡ true = ap (λ b. b && is_own service tei service tei) granted_so ∙ own-is service tei in
+        gives (Release service tei) the-same on unrefused (decided c false o) refl
+        (ap (λ b. cond b (by_release c w) w) (own-is service tei) ∙ ap (λ n. cond (is_up n) (in_state 6) (cond (n == 5) (decides c false w) w)) is)
+        (ap (λ fs. take c.control (o.waiting ++ fs)) (decided-put c false w is)) (decided-told service tei c (releases service tei (request (Release service tei)) its_answer) false w is) (λ lost. grind (arith, own))
 
     data-takes : (contents : List ℕ) → fine (Data service tei contents) → is_up w.state ≡ true → Effective (Data service tei contents) (record (puts c [] o) { kept = o.kept ++ contents ∷ [] })
     unfolding Effective
@@ -262,10 +308,13 @@ module _ (c : Config) (events : List Event) (number : ℕ) (ranged : IsInRange c
 
     takes : (asked : LinkRequest) (e : Effect) → fine (of_link service tei asked) → effect c full service tei o asked ≡ Ok e → Effective (of_link service tei asked) e
     takes LinkEstablish e unrefused is =
-        let x = served (w.state == 4) _ e is in subst (Effective (Establish service tei)) x.1 (establish-takes unrefused x.0)
+        ⊎_elim (λ x. subst (Effective (Establish service tei)) x.2 (decides-open unrefused (opens-at c.reading w.state x.0 x.1))) (λ x. subst (Effective (Establish service tei)) x.1 (establish-takes unrefused x.0))
+        (either-served (may_establish c w) (w.state == 4) _ _ e is)
     takes LinkRelease e unrefused is =
-        ⊎_elim (λ x. subst (Effective (Release service tei)) x.1 (released-takes unrefused x.0)) (λ x. subst (Effective (Release service tei)) x.1 (disc-takes unrefused x.0))
-        (either-served (w.state == 4) (is_up w.state) _ _ e is)
+        ⊎_elim (λ x. subst (Effective (Release service tei)) x.1 (disc-takes unrefused x.0))
+        (λ y. ⊎_elim (λ x. subst (Effective (Release service tei)) x.1 (released-takes unrefused x.0))
+        (λ x. subst (Effective (Release service tei)) x.3 (decides-end unrefused (ends-at c.reading w.state w.owed x.0 x.1 x.2))) y)
+        (third-served (may_release c w) (w.state == 4) (is_up w.state) _ _ _ e is)
     takes (LinkData contents) e unrefused is =
         let x = room-served (is_up w.state) (nat_lt c.n201 (length contents)) (nat_le c.queue (length o.kept)) full _ e is in
         subst (Effective (Data service tei contents)) x.1 (data-takes contents unrefused x.0)
@@ -279,7 +328,7 @@ module _ (c : Config) (events : List Event) (number : ℕ) (ranged : IsInRange c
         let r = Deactivate service tei in
         let its_answer = (moment_of c events number (request r)).answer in
         let granted_so : is_granted its_answer ≡ true = so r the-same on unrefused in
-        let link_is : observer_by_request service tei r w ≡ in_state 4 = ap (λ b. cond b (in_state 4) w) (own-is service tei) in
+        let link_is : observer_by_request c service tei r w ≡ in_state 4 = ap (λ b. cond b (in_state 4) w) (own-is service tei) in
         let its_own : has_tei tei l ≡ true = sym on-is ∙ on in
         record {
           granted = granted_so;

@@ -1,9 +1,9 @@
 -- What an observer knows of a link of a TEI on the line: its state, and in states 7 and 8 V(A).
-use Rattle.laws_trace.proofs.Vocabulary.{arith, ◌≡◌, ℕ, ◌%◌, ◌<◌, ◌==◌, Bool, true, false, List, Some, fold, Service, State, Link, is_multiple_frame, state_number, Config, Line, has_tei, link_of, place_in, IsInRange, line_at, at, moments, fresh, CardEvent as Event, after, after_all, AreAtLines, managing_is_on as is_on, Observed, View, view_of, moment_of, view_behind}
+use Rattle.laws_trace.proofs.Vocabulary.{arith, ◌≡◌, ℕ, ◌%◌, ◌<◌, ◌==◌, Bool, true, List, Some, fold, Service, State, Link, is_multiple_frame, state_number, Config, Line, has_tei, link_of, place_in, IsInRange, line_at, at, moments, fresh, CardEvent as Event, after, after_all, AreAtLines, managing_is_on as is_on, Observed, View, view_of, moment_of, view_behind}
 use Rattle.model_line.specs.Event as line_event
 use Rattle.laws_trace.proofs.MovesWatched.{repeated}
 use Rattle.laws_trace.proofs.NewsWatched as news
-use Rattle.laws_trace.proofs.NewsWatched.{Owing, none_owed, owing}
+use Rattle.laws_trace.proofs.NewsWatched.{Wanted, none_wanted, Owing, none_owed, owing}
 use Rattle.laws_trace.proofs.NewsOfEvent.{IsAskedOf}
 use Rattle.laws_trace.proofs.NewsOfLink.{Asks}
 use Rattle.laws_trace.proofs.News.{asked-now, asked-behind}
@@ -22,8 +22,9 @@ pub record IsSeenAs (k : Link) (o : Observed) : Type 0 where
   pub state_is : o.state ≡ state_number k.state
   pub acknowledged_is : is_multiple_frame k.state ≡ true → o.acknowledged ≡ k.a % 128
   pub asked_is : (state_number k.state == 5) ≡ true → o.asked ≡ k.asked
+  pub owed_is : (state_number k.state == 5) ≡ true → o.owed ≡ k.owed
 
-seen-as : (c : Config) (service : Service) (tei : ℕ) (k : Known) (asked owed : Bool) (n : ℕ) (l : Line) (v : View) → Holds c service tei k asked owed n l v → IsAskedOf service tei asked l
+seen-as : (c : Config) (service : Service) (tei : ℕ) (k : Known) (asked : Wanted) (owed : Bool) (n : ℕ) (l : Line) (v : View) → Holds c service tei k asked owed n l v → IsAskedOf service tei asked l
     → (place : ℕ) → place_in l tei ≡ Some place → IsSeenAs (link_of service tei l) v.link
 seen-as c service tei k asked owed n l v h asks place on = grind (arith, IsObserved, IsSeen, state-on, Known, known-up, When, Asks)
 
@@ -32,8 +33,8 @@ module _ (c : Config) (events : List Event) (number : ℕ) (ranged : IsInRange c
   abbrev known : Known
   known = fold (watch c service tei number) nothing_yet (moments (fresh c) events)
 
-  abbrev asks : Bool
-  asks = fold (news.asked service tei number) false (moments (fresh c) events)
+  abbrev asks : Wanted
+  asks = fold (news.asked service tei number) none_wanted (moments (fresh c) events)
 
   abbrev owes : Owing
   owes = fold (owing c service tei number) none_owed (moments (fresh c) events)

@@ -1,9 +1,8 @@
 -- What TEI management of a terminal serves: of messages, what an observer of the line has it serve, and all else.
-use Rattle.laws_trace.proofs.Vocabulary.{◌≡◌, ℕ, Bool, true, false, cond, not, List, Option, true≢false, is_some, nat_lt, Refusal}
+use Rattle.laws_trace.proofs.Vocabulary.{◌≡◌, ℕ, Bool, true, false, cond, not, List, Option, ap, ◌∙◌, true≢false, is_some, nat_lt, Refusal, Config}
 use Rattle.model_teis.specs.terminal.Events.{Event, message, step, told, unless_refused}
 unfoldable use Rattle.model_teis.specs.terminal.Events.{course}
 use Rattle.model_teis.specs.terminal.Machine.{Terminal}
-use Rattle.model_teis.specs.terminal.Messages.{heard_in}
 use Rattle.model_teis.specs.terminal.Rows as rows
 use Rattle.model_teis.specs.Steps.{nothing_happens}
 use Rattle.model_teis.specs.terminal.Words.{Course, Step, begun, leave, end_procedure}
@@ -20,9 +19,12 @@ some-served x = grind (arith, is_some, shown)
 not-twice : (b d : Bool) → d ≡ not b → b ≡ not d
 not-twice b d is = grind arith
 
-pub own-serves : (m : Terminal) → ((tei : ℕ) → IsOnce tei m.places) → (info : List ℕ) → (told (message info) m).unserved ≡ not (is_some (by_message info (known m)))
+pub own-serves : (c : Config) (m : Terminal) → m.reading ≡ c.reading → ((tei : ℕ) → IsOnce tei m.places) → (info : List ℕ)
+    → (told (message info) m).unserved ≡ not (is_some (by_message c info (known m)))
 unfolding course
-own-serves m once info = grind (arith, heard_in, begun, not-twice, is_some, known, message-is, some-served)
+own-serves c m read once info =
+    not-twice (rows.hear info (begun m)).told.unserved (is_some (by_message c info (known m)))
+    (ap is_some (message-is m once c read info) ∙ some-served (rows.hear info (begun m)))
 
 -- A TEI leaves, after verifying of it ended or not.
 ends-quiet : (tei : ℕ) (b : Bool) (m : Terminal) → (leave tei ((cond b end_procedure nothing_happens) (begun m))).told.unserved ≡ false

@@ -1,12 +1,15 @@
 -- The Ri of each message of TEI management that waits on a line has two octets.
 use Rattle.laws_trace.proofs.Vocabulary.{ℕ, ◌+◌, ◌*◌, ◌/◌, ◌%◌, ◌<◌, ◌==◌, ◌&&◌, Bool, cond, nat_le, List, [], ◌∷◌, ◌++◌, Option, Some, None, arith, All, All-nil, All-cons, All-head, All-tail, All-append, AreOctets, Management, Message, Check, Doubled, Refusal, IdentityAssigned, IdentityDenied, IdentityRemove, free_place, no_room, lose_one, send, unserved, leave, end_check}
 use Rattle.laws_trace.proofs.Vocabulary.{TeiCourse as Course, cond_both, tei_after, tei_begun, tei_message, tei_assign, tei_remove, tei_check, tei_disown, tei_refusal, tei_step, tei_unless_refused, TeiEvent, tei_course}
+use Rattle.std.proofs.lemmas.List.Elements.{All-take}
 use Rattle.model_teis.specs.network.Rows as rows
 use Rattle.lapd_frame.specs.Readings.{by_reading}
 use Rattle.lapd_frame.specs.declared.readings.Reading.{Reading}
+use Rattle.lapd_frame.specs.declared.readings.Reading.TheVariants.{Profile, AnnexB}
 use Rattle.model_teis.specs.declared.network.messages.Message.TheVariants.{IdentityCheckRequest}
 use Rattle.model_teis.specs.network.Events.{expiry, down}
-use Rattle.model_teis.specs.network.Messages.{responses_in}
+use Rattle.model_teis.specs.Information.{heard_by, looked_at}
+use Rattle.model_teis.specs.network.Messages.{heard_of_type, responses_in}
 use Rattle.model_teis.specs.Table.{free_tei}
 use Rattle.model_teis.specs.Steps.{nothing_happens}
 use Rattle.model_teis.specs.network.Words.{Step, check_is, note, with_message}
@@ -79,13 +82,12 @@ verify-small tei c h = grind (arith, sends)
 either-served : {X : Type 0} (f : X → Course) (b : Bool) (u v : X) → AreSmall (f u) → AreSmall (f v) → AreSmall (f (cond b u v))
 either-served f b u v h k = grind arith
 
-served : (info : List ℕ) (c : Course) → AreOctets info → AreSmall c → AreSmall (rows.hear info c)
-served (a ∷ high ∷ low ∷ type ∷ last ∷ []) c octets h =
+five-served : (five : List ℕ) (teis : Option (List ℕ)) (c : Course) → AreOctets five → AreSmall c → AreSmall (rows.serve (heard_by heard_of_type five) teis c)
+five-served (a ∷ high ∷ low ∷ type ∷ last ∷ []) teis c octets h =
     let behind = All-tail (λ octet. octet < 256) a (high ∷ low ∷ type ∷ last ∷ []) octets in
     let first : high < 256 = All-head (λ octet. octet < 256) high (low ∷ type ∷ last ∷ []) behind in
     let second : low < 256 = All-head (λ octet. octet < 256) low (type ∷ last ∷ []) (All-tail (λ octet. octet < 256) high (low ∷ type ∷ last ∷ []) behind) in
     let ri : 256 * high + low < 65536 = omega (arith, first, second) in
-    let teis = responses_in (a ∷ high ∷ low ∷ type ∷ last ∷ []) in
     let action = last / 2 in
     either-served (λ o. rows.serve o teis c) (a == 0x0F && last % 2 == 1) _ _
     (either-served (λ o. rows.serve o teis c) (type == 1 && action == 127) _ _ (request-small (256 * high + low) c ri h)
@@ -94,12 +96,19 @@ served (a ∷ high ∷ low ∷ type ∷ last ∷ []) c octets h =
     (either-served (λ o. rows.serve o teis c) (type == 5) _ _ (respond-small action c.now.check c h)
     (either-served (λ o. rows.serve o teis c) (type == 7) _ _ (verify-small action c h) (none-small teis c h)))))
     (none-small teis c h)
-served (a ∷ high ∷ low ∷ type ∷ last ∷ sixth ∷ more) c octets h = none-small (responses_in (a ∷ high ∷ low ∷ type ∷ last ∷ sixth ∷ more)) c h
-served (a ∷ high ∷ low ∷ type ∷ []) c octets h = none-small (responses_in (a ∷ high ∷ low ∷ type ∷ [])) c h
-served (a ∷ high ∷ low ∷ []) c octets h = none-small None c h
-served (a ∷ high ∷ []) c octets h = none-small None c h
-served (a ∷ []) c octets h = none-small None c h
-served [] c octets h = none-small None c h
+five-served (a ∷ high ∷ low ∷ type ∷ last ∷ sixth ∷ more) teis c octets h = none-small teis c h
+five-served (a ∷ high ∷ low ∷ type ∷ []) teis c octets h = none-small teis c h
+five-served (a ∷ high ∷ low ∷ []) teis c octets h = none-small teis c h
+five-served (a ∷ high ∷ []) teis c octets h = none-small teis c h
+five-served (a ∷ []) teis c octets h = none-small teis c h
+five-served [] teis c octets h = none-small teis c h
+
+served : (info : List ℕ) (c : Course) → AreOctets info → AreSmall c → AreSmall (rows.hear info c)
+served info c octets h = five-served (looked_at c.now.reading info) (responses_in info) c (looked c.now.reading) h
+  where
+    looked : (r : Reading) → AreOctets (looked_at r info)
+    looked Profile = octets
+    looked AnnexB = All-take (λ octet. octet < 256) 5 info octets
 
 -- What management asks for, and an expiry.
 expire-small : (c : Course) → AreSmall c → AreSmall (rows.expire c)

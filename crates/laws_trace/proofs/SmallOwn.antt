@@ -6,7 +6,8 @@ use Rattle.model_teis.specs.terminal.Events.{Event, after, message, expiry, assi
 use Rattle.model_teis.specs.terminal.Events.{ask as asking, verify as verifying}
 unfoldable use Rattle.model_teis.specs.terminal.Events.{course}
 use Rattle.model_teis.specs.terminal.Machine.{Terminal}
-use Rattle.model_teis.specs.terminal.Messages.{heard_in, heard_of_type}
+use Rattle.model_teis.specs.Information.{heard_by, looked_at}
+use Rattle.model_teis.specs.terminal.Messages.{heard_of_type}
 use Rattle.model_teis.specs.Table.{named}
 use Rattle.model_teis.specs.terminal.Rows as rows
 use Rattle.model_teis.specs.terminal.Rows.{answered, take_off, end_if_any, withdraw_all}
@@ -94,7 +95,7 @@ assigned : (ri tei : ℕ) (o : Option Procedure) (c : Course) → Small c → Sm
 assigned ri tei None c h = either (is_on tei c.now.places) (verify tei 1) unserved c (verifies tei 1 c h) h
 assigned ri tei (Some (Asking own attempts)) c h =
     either (own == ri) (rows.take_tei tei) unserved c
-    (either (rows.is_assignable tei c.now.places) (rows.take_at tei (free_place c.now.places)) unserved c (taken tei (free_place c.now.places) c h) h) h
+    (either (rows.is_assignable c.now.reading tei c.now.places) (rows.take_at tei (free_place c.now.places)) unserved c (taken tei (free_place c.now.places) c h) h) h
 assigned ri tei (Some (Verifying own attempts)) c h = h
 
 denied : (ri : ℕ) (o : Option Procedure) (c : Course) → Small c → Small (rows.denied ri o c)
@@ -113,7 +114,7 @@ either-of f b u v x y = grind arith
 of-type : (type ri action : ℕ) (m : Terminal) → Small (begun m) → Small (rows.serve (heard_of_type type ri action) (begun m))
 of-type type ri action m h = grind (arith, either-of, begun, assigned, denied, checked, named, removed)
 
-serves : (octets : List ℕ) (m : Terminal) → Small (begun m) → Small (rows.serve (heard_in octets) (begun m))
+serves : (octets : List ℕ) (m : Terminal) → Small (begun m) → Small (rows.serve (heard_by heard_of_type octets) (begun m))
 serves octets m h = grind (arith, either-of, begun, of-type)
 
 expires : (o : Option Procedure) (m : Terminal) → Small (begun m) → Small (rows.expire_procedure o (begun m))
@@ -129,7 +130,7 @@ unless o does m h x = grind arith
 
 leads : (e : Event) (m : Terminal) → Small (begun m) → Small (course e m)
 unfolding course
-leads (message octets) m h = serves octets m h
+leads (message octets) m h = serves (looked_at m.reading octets) m h
 leads expiry m h = expires m.procedure m h
 leads asking m h = unless (refusal asking m) (ask 1) m h (asked 1 (begun m) h)
 leads (verifying tei) m h = unless (refusal (verifying tei) m) (verify tei 1) m h (verifies tei 1 (begun m) h)

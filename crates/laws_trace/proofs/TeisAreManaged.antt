@@ -91,7 +91,7 @@ fresh-follows c = record { on = none-on c.terminals; side = go (is_terminal c) r
     go : (b : Bool) → is_terminal c ≡ b → OfSide c b none_on (fresh_line c).management (fresh_line c).own
     go false net = record { is = refl; on = none-on c.terminals; placed = none-placed c.terminals; order = tt }
     go true is = record {
-      own_is = ap (λ b. known (record { places = replicate c.terminals None; number = cond b (unwrap_or c.seed 0 % 65536) 0; procedure = None; waiting = [] })) (sym is);
+      own_is = ap (λ b. known (record { reading = c.reading; places = replicate c.terminals None; number = cond b (unwrap_or c.seed 0 % 65536) 0; procedure = None; waiting = [] })) (sym is);
       on_is = none-there c.terminals;
       owed = refl;
     }

@@ -40,6 +40,14 @@ pub record Good (k : Known) (ran : LinkTimer → Bool) (x y : Timing) (o : Optio
   pub anew : (timer : LinkTimer) → ran timer ≡ true → runs timer y.running ≡ true → runs timer y.started ≡ anew_by timer x.state y.state k o
   pub kept : Kept y.state x y
 
+-- But for V(A) and V(S), which layer 3 may move in state 5.
+pub record Fair (k : Known) (ran : LinkTimer → Bool) (x y : Timing) (o : Option Control) : Type 0 where
+  pub agrees : Agrees y.state (heard_by x.state y.state k o) y.a y.s y.busy
+  pub anew : (timer : LinkTimer) → ran timer ≡ true → runs timer y.running ≡ true → runs timer y.started ≡ anew_by timer x.state y.state k o
+
+pub fair : (k : Known) (ran : LinkTimer → Bool) (x y : Timing) (o : Option Control) → Good k ran x y o → Fair k ran x y o
+fair k ran x y o h = record { agrees = h.agrees; anew = h.anew }
+
 not-both : {X : Type 0} (b : Bool) → b ≡ false → b ≡ true → X
 not-both b none some = absurd (true≢false (sym some ∙ none))
 
@@ -88,6 +96,13 @@ module _ (k : Known) (ran : LinkTimer → Bool) (a s : ℕ) (busy : Bool) (r : O
 
     pub agreed-5 : k ≡ nothing_yet → busy ≡ false → Good k ran (at AwaitingEstablishment) (begins (at AwaitingEstablishment)) (Some (Ua true))
     agreed-5 none calm = grind (arith, by-t200, begins, not-t200)
+
+    -- The release that is owed is carried out. Layer 3 decides, and gives up what is kept.
+    pub carried-5 : (o : Option Control) → Good k ran (at AwaitingEstablishment) (record (awaits AwaitingRelease (at AwaitingEstablishment)) { a = 0; s = 0 }) o
+    carried-5 o = grind (arith, by-t200)
+
+    pub decided-5 : (o : Option Control) → Fair k ran (at AwaitingEstablishment) (record (at AwaitingEstablishment) { s = a }) o
+    decided-5 o = record { agrees = refl; anew = λ timer was now. refl }
 
     pub same-6 : (o : Option Control) → Good k ran (at AwaitingRelease) (at AwaitingRelease) o
     same-6 o = record { agrees = refl; anew = λ timer was now. refl; kept = tt }

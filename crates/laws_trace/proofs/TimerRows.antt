@@ -55,7 +55,7 @@ module _ (t : Terms) (k : Known) (ran : LinkTimer → Bool) (l : Link) where
   -- State 5.
   in-5 : Facts AwaitingEstablishment → (b : Bool) (octets : List ℕ) (control : Control)
       → Row AwaitingEstablishment (frame_in AwaitingEstablishment t b octets control) (Some control)
-  in-5 facts b octets control = grind (arith, moved, begins, claims.agreed-5, claims.ended, itself, unit-acts, unexpected-acts)
+  in-5 facts b octets control = grind (arith, moved, begins, claims.agreed-5, claims.carried-5, claims.ended, itself, unit-acts, unexpected-acts)
 
   -- State 6.
   same-6 : ran T203 ≡ false → (o : Option Control) → Good k ran (at AwaitingRelease) (at AwaitingRelease) o

@@ -1,6 +1,7 @@
 -- The words of std and of the crates below with which the proofs of this crate speak, from where they are defined.
 pub use Rattle.std.proofs.Common.{All, Bool, Err, IfSome, List, None, Ok, Option, Result, Some, [], ap, append-nil, append_assoc, arith, cond, drop, eq-eqb, eqb-true, false, filter, get_or, inl, inr, is_some, length, length-append, map, nat_le, not, option_map, refl, replicate, set, slice_get, slice_index, subst, suc, sym, take, true, true≢false, zero, ℕ, ⊎_elim, ◌%◌, ◌&&◌, ◌*◌, ◌++◌, ◌+◌, ◌-◌}
 pub use Rattle.std.proofs.Common.{◌/◌, ◌<◌, ◌==◌, ◌||◌, ◌∙◌, ◌∷◌, ◌≡◌, ◌≢◌, ◌≤◌, ◌⊎◌}
+pub use Rattle.std.specs.Prelude.{IsTrue}
 pub use Rattle.std.proofs.Math.Bool.{and-true, or-false, or-true, or_comm}
 pub use Rattle.std.proofs.Math.Seq.{drop-nil, take-length}
 pub use Rattle.std.proofs.lemmas.Bool.{and_parts, and_right, cond_both, eqb-false, false_from_ne_true, le-leb, le-ltb, leb-false, leb-true, lt-ltb, ltb-false, ltb-true, or_parts, or_right}
@@ -116,7 +117,7 @@ pub use Rattle.laws_link.proofs.Keeping.{event-done, event-unit}
 pub use Rattle.laws_link.proofs.Offering.{given-is-offered}
 pub use Rattle.laws_link.proofs.Once.{data-is, within-is}
 pub use Rattle.laws_link.proofs.Restarts.{establishes}
-pub use Rattle.laws_link.specs.Accepted.{accepted, acknowledged, empties, ends, is_loss, is_release, tells_loss}
+pub use Rattle.laws_link.specs.Accepted.{accepted, acknowledged, empties, ends, gives_up, is_loss, tells_loss}
 pub use Rattle.laws_link.specs.Flags.{busy_asked, flag_left, owed_behind, owed_in, own_busy_left, pending_left, rejecting_heard, takes_contents, unless_put}
 pub use Rattle.laws_link.specs.Heard.{in_sequence, in_ui_frame, unit_heard, within}
 pub use Rattle.laws_link.specs.History.{share}
@@ -133,8 +134,8 @@ pub use Rattle.laws_trace.specs.FramesAreDue.{DueIsGiven, GivenIsDue, may_go, of
 pub use Rattle.laws_trace.specs.FramesAreRead.{FramesAreOctets, FramesAreRead, GivesOctets, IsSpelled, contents_given}
 pub use Rattle.laws_trace.specs.LinkFrames.{brought, fault_of, faulty_long, frame_of, is_for, is_frame_of, its_frame, malformed, reads}
 pub use Rattle.laws_trace.specs.Managing.{manages, Checked, Managed, by_event as managing_by_event, by_message as message_served, checks, due, gives, grants, is_on as managing_is_on, leaves, led, managed_after, may_check, none_on, nothing_due, over, owes, ran_out, responded, settling}
-pub use Rattle.laws_trace.specs.News.{NewsIsTold, brings, given_up, is_news, is_sabme, is_xid, releases, wrong, wrong_frame, wrong_number}
-pub use Rattle.laws_trace.specs.Observer.{Observed, View, anew, at_first, awaits, by_event, by_expiry as observer_by_expiry, by_frame as observer_by_frame, by_heard, by_request as observer_by_request, by_t200, enquires, enters, in_state, is_outstanding, moment_of, steps, view_behind, view_of, views, while_down, while_up}
+pub use Rattle.laws_trace.specs.News.{NewsIsTold, awaits_release, brings, establishes as asks_establishment, given_up, is_news, is_sabme, is_xid, releases, wrong, wrong_frame, wrong_number}
+pub use Rattle.laws_trace.specs.Observer.{Observed, View, anew, asked_for, at_first, awaits, by_establish, by_event, by_release, decides, by_expiry as observer_by_expiry, by_frame as observer_by_frame, by_heard, by_request as observer_by_request, by_t200, enquires, enters, in_state, is_outstanding, moment_of, steps, view_behind, view_of, views, while_down, while_up}
 pub use Rattle.laws_trace.specs.Outgoing.{Outgoing, data_granted, is_empty, keeps, nothing_yet, outgoing_of, still_owes, watches, went_on, waits as outgoing_waits}
 pub use Rattle.laws_trace.specs.TeisAreManaged.{IsAsDue, TeisAreManaged, is_of_line, is_of_teis}
 pub use Rattle.laws_trace.specs.TimersAreTimely.{TimersAreTimely, TimersRun, is_order_of, renews}

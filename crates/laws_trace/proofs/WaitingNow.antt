@@ -12,7 +12,7 @@ use Rattle.laws_trace.proofs.ControlsWatched as old
 use Rattle.laws_trace.proofs.DeliveriesKept.{run-stands}
 use Rattle.laws_trace.proofs.DeliveriesWatched.{at_first as watched_first, stand}
 use Rattle.laws_trace.proofs.MovesWatched.{repeated}
-use Rattle.laws_trace.proofs.NewsWatched.{none_owed, owing, asked}
+use Rattle.laws_trace.proofs.NewsWatched.{none_wanted, none_owed, owing, asked}
 use Rattle.laws_trace.proofs.ObservedAcknowledged.{agrees-now}
 use Rattle.laws_trace.proofs.ObservedControlsMoment.{due-same}
 use Rattle.laws_trace.proofs.SeenAs.{seen-before}
@@ -149,7 +149,7 @@ module _ (c : Config) (number : ℕ) (ranged : IsInRange c) (within : number < c
       subst (λ (d : Config). old.due_in d service tei number (calm w.told.count w.busy w.rejected) (standing service tei d (calm w.told.count w.busy w.rejected) (seen_in number m)) m
       ≡ last_of (due_by d v.link (views d service tei number v m).link m) m) (config-now c before number ranged all within service tei)
       (due-same service tei number card (sound-now c before number ranged all within service tei) (timely-now c before number ranged all within service tei) (at number what) (here-at c number ranged within service tei before all)
-      (fold (watch c service tei number) known_first ms) (fold (asked service tei number) false ms) (fold (owing c service tei number) none_owed ms)
+      (fold (watch c service tei number) known_first ms) (fold (asked service tei number) none_wanted ms) (fold (owing c service tei number) none_owed ms)
       (known-is c before number ranged all within service tei ms known_first none_owed refl) (fold (repeated service tei number) 0 ms) v (holds-here c before number ranged all within service tei)
       w.told.count w.busy w.rejected (x.1, x.2) (agrees-now c before number ranged all within service tei))
 

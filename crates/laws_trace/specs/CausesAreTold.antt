@@ -47,7 +47,7 @@ serves c long other state = is_up state
 -- TEI management serves the messages by which something comes to happen to it (`by_message`), and no others: on the network's side
 -- those of a terminal, and at a terminal those of the network (clause 5.3.6, table 8, and profile).
 abbrev pub serves_information : Config → Managed → List ℕ → Bool
-serves_information c w info = if is_terminal c then is_some (terminal.by_message info (own_of c w)) else is_some (by_message c w info)
+serves_information c w info = if is_terminal c then is_some (terminal.by_message c info (own_of c w)) else is_some (by_message c w info)
 
 -- A frame is by its address for TEI management, which has SAPI 63 and the TEI of the group; or for the link of a service with a
 -- TEI on the line, in its state; or for none, by its SAPI, and else by its TEI (clauses 2.9, 3.3.3, 3.3.4 and 5.3.6).

@@ -17,7 +17,7 @@ use Rattle.laws_trace.specs.Observer.{moment_of, views}
 use Rattle.laws_trace.specs.Outgoing.{loses, outgoing_of}
 
 -- How many a link gives up by an event of its line. It is all that it keeps, if layer 3 learns that it keeps nothing, or if
--- its TEI leaves the line (Q.921 clauses 5.3.4, 5.5.3.2 and 5.7). Otherwise it is none.
+-- its TEI leaves the line (Q.921 clauses 5.3.4, 5.5.1.1, 5.5.3.2 and 5.7). Otherwise it is none.
 abbrev pub given_up : Config → Service → ℕ → ℕ → List Event → line_event.Event → ℕ
 given_up c service tei number events what =
     let o = outgoing_of c service tei number events in

@@ -41,6 +41,7 @@ pub mod WorkedLoss
 pub mod WorkedAnswers
 pub mod WorkedManaging
 pub mod WorkedReadings
+pub mod WorkedOwed
 pub mod WorkedTerminal
 pub mod WorkedAsking
 pub mod WorkedOtherSide

@@ -158,13 +158,15 @@ responded tei w check =
     else if check.answered then Some (record (removes tei w) { notes = Doubled tei ∷ [] })
     else Some (record w { check = Some (record check { answered = true }) })
 
--- By annex B one may answer for several TEIs, 2 to 64, in an octet for each, whose bit 1 is 1 in the last alone (clauses 5.3.3.2
--- and 5.3.6). In the profile that is not served.
+-- By annex B one may answer for several TEIs, 64 at most, in an octet for each, whose bit 1 is 1 in the last alone (clauses 5.3.3.2
+-- and 5.3.6). What follows the last is not looked at. In the profile that is not served.
+abbrev pub named_by : Managed → List ℕ → Option Managed
+named_by w teis =
+    option_and_then (λ (check : Checked). if list_any (λ octet. octet / 2 == check.tei) teis then responded check.tei w check else None) w.check
+
 abbrev pub several : Managed → List ℕ → Option Managed
 several w octets =
-    let ends = option_map_or (λ place. place + 1 == length octets) (position (λ octet. octet % 2 == 1) octets) false in
-    if not (nat_le 2 (length octets) && nat_le (length octets) 64 && ends) then None
-    else option_and_then (λ (check : Checked). if list_any (λ octet. octet / 2 == check.tei) octets then responded check.tei w check else None) w.check
+    option_and_then (λ place. if nat_lt place 64 then named_by w (take (place + 1) octets) else None) (position (λ octet. octet % 2 == 1) octets)
 
 -- As T201 runs out, they are asked once more; and then the check is over, and where none answered, the TEI leaves, of
 -- which no terminal is told in the profile (clauses 5.3.3.2 and 5.3.4.2). Once a check has settled they are asked.
@@ -177,14 +179,27 @@ ran_out c w check =
 -- What a terminal says, in the information of a UI frame to the group, with SAPI 63 (`is_message`): in octets 0F, Ri with its high octet
 -- first, the type, and Ai with 1 as its extension bit (clause 5.3.6, its figure and table 8). It asks for a TEI; it answers that
 -- it has one; or it asks for a check of one. None is a message that is not served.
-abbrev pub by_message : Config → Managed → List ℕ → Option Managed
-by_message c w (entity ∷ high ∷ low ∷ type ∷ last ∷ []) =
-    if not (entity == 0x0F && last % 2 == 1) then None
-    else if type == 1 then requested c (256 * high + low) (last / 2) w
-    else if type == 5 then option_and_then (responded (last / 2) w) w.check
-    else if type == 7 then verified c (last / 2) w
+abbrev pub by_type : Config → Managed → ℕ → ℕ → ℕ → Option Managed
+by_type c w type ri tei =
+    if type == 1 then requested c ri tei w
+    else if type == 5 then option_and_then (responded tei w) w.check
+    else if type == 7 then verified c tei w
     else None
-by_message c w (entity ∷ high ∷ low ∷ type ∷ octets) = if entity == 0x0F && type == 5 then by_reading c.reading None (several w octets) else None
+
+-- These are five octets. By annex B more may follow, and are not looked at; and in an answer for several TEIs bit 1 of the fifth is 0.
+abbrev pub ends : List ℕ → Bool
+ends [] = true
+ends (octet ∷ more) = false
+
+abbrev pub is_one : Config → ℕ → List ℕ → Bool
+is_one c action more = by_reading c.reading (ends more) true && action % 2 == 1
+
+abbrev pub by_message : Config → Managed → List ℕ → Option Managed
+by_message c w (entity ∷ high ∷ low ∷ type ∷ action ∷ more) =
+    if not (entity == 0x0F) then None
+    else if is_one c action more then by_type c w type (256 * high + low) (action / 2)
+    else if type == 5 then by_reading c.reading None (several w (action ∷ more))
+    else None
 by_message c w other = None
 
 -- A trunk's end manages no TEI: it serves no message, and removes, checks and disowns none (profile).

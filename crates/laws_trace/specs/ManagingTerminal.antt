@@ -9,6 +9,7 @@ use Rattle.lapd_frame.specs.declared.timers.Order.{Order}
 use Rattle.lapd_frame.specs.declared.timers.Order.TheVariants.{Start, Stop}
 use Rattle.lapd_frame.specs.declared.timers.Timer.TheVariants.{T202}
 use Rattle.lapd_frame.specs.Grammar.{Parts}
+use Rattle.lapd_frame.specs.Readings.{by_reading}
 use Rattle.model_teis.specs.declared.terminal.messages.Message.{Message}
 use Rattle.model_teis.specs.declared.terminal.messages.Message.TheVariants.{IdentityRequest, IdentityCheckResponse, IdentityVerify}
 use Rattle.model_teis.specs.declared.terminal.procedure.Procedure.{Procedure}
@@ -110,15 +111,15 @@ abbrev pub removed : ℕ → OfTerminal → OfTerminal
 removed tei t = record (leaves tei t) { notes = Removed tei ∷ [] }
 
 -- A TEI is assigned (clause 5.3.2). It comes to the line if the terminal asks for one by this Ri, it is one that the network assigns
--- (64 to 126, clause 3.3.4.2), it is not on the line, and a place is free. One that is on the line was assigned to another terminal:
--- verifying it begins, unless a procedure runs (clause 5.3.4.2 and profile).
-abbrev pub by_assigned : ℕ → ℕ → Option Procedure → OfTerminal → Option OfTerminal
-by_assigned ri tei None t = if is_on tei t then Some (verifies tei 1 t) else None
-by_assigned ri tei (Some (Asking own attempts)) t =
-    if own == ri && (nat_le 64 tei && nat_le tei 126 && not (is_on tei t) && list_any is_free t.places)
+-- (64 to 126, clause 3.3.4.2), by annex B any of 0 to 126, it is not on the line, and a place is free. One that is on the line was
+-- assigned to another terminal: verifying it begins, unless a procedure runs (clause 5.3.4.2 and profile).
+abbrev pub by_assigned : Config → ℕ → ℕ → Option Procedure → OfTerminal → Option OfTerminal
+by_assigned c ri tei None t = if is_on tei t then Some (verifies tei 1 t) else None
+by_assigned c ri tei (Some (Asking own attempts)) t =
+    if own == ri && (nat_le (by_reading c.reading 64 0) tei && nat_le tei 126 && not (is_on tei t) && list_any is_free t.places)
     then Some (record (over t) { places = with_tei tei t.places; notes = Assigned tei ∷ [] })
     else None
-by_assigned ri tei (Some (Verifying on attempts)) t = None
+by_assigned c ri tei (Some (Verifying on attempts)) t = None
 
 -- It is denied one (clause 5.3.2). Management is told, and the terminal goes on asking (profile).
 abbrev pub by_denied : ℕ → Option Procedure → OfTerminal → Option OfTerminal
@@ -140,23 +141,27 @@ by_remove [] t = None
 by_remove (tei ∷ []) t = Some (removed tei t)
 by_remove (tei ∷ more) t = Some (record t { notes = RemoveAll ∷ [] })
 
--- What the network says, in octets as in `octets_of`: by type (clause 5.3.6, table 8). None is a message that is not served.
-abbrev pub by_message : List ℕ → OfTerminal → Option OfTerminal
-by_message (entity ∷ high ∷ low ∷ type ∷ last ∷ []) t =
+-- What the network says, in octets as in `octets_of`: by type (clause 5.3.6, table 8). None is a message that is not served. By annex B
+-- more octets may follow these five, and are not looked at.
+abbrev pub by_five : Config → List ℕ → OfTerminal → Option OfTerminal
+by_five c (entity ∷ high ∷ low ∷ type ∷ last ∷ []) t =
     if not (entity == 0x0F && last % 2 == 1) then None
-    else if type == 2 then by_assigned (256 * high + low) (last / 2) t.procedure t
+    else if type == 2 then by_assigned c (256 * high + low) (last / 2) t.procedure t
     else if type == 3 && last / 2 == 127 then by_denied (256 * high + low) t.procedure t
     else if type == 4 then by_check (named (last / 2) t) t
     else if type == 6 then by_remove (named (last / 2) t) t
     else None
-by_message other t = None
+by_five c other t = None
+
+abbrev pub by_message : Config → List ℕ → OfTerminal → Option OfTerminal
+by_message c octets t = by_five c (by_reading c.reading octets (take 5 octets)) t
 
 -- It says so in UI commands to the group, with SAPI 63, of at most N201 octets (clause 5.9.3).
 abbrev pub is_message : Config → Parts → Bool
 is_message c f = ((f.address.sapi == 63 && f.address.tei == 127) && is_ui f.control) && nat_le (length f.info) c.n201
 
 abbrev pub by_frame : Config → OfTerminal → Parts → Option OfTerminal
-by_frame c t f = if is_message c f && f.address.command then by_message f.info t else None
+by_frame c t f = if is_message c f && f.address.command then by_message c f.info t else None
 
 -- T202 runs out (clauses 5.3.2.1 and 5.3.5). A TEI is asked for three times (N202, clause 5.9.4; constant by profile), and verified
 -- twice; and then it is not assigned, or it leaves.

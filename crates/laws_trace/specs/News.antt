@@ -13,7 +13,7 @@ use Rattle.lapd_frame.specs.Grammar.{Parts}
 use Rattle.model_line.specs.declared.config.Config.{Config}
 use Rattle.model_line.specs.Event as line_event
 use Rattle.model_line.specs.Event.{hears, expiry, request, Answer}
-use Rattle.model_line.specs.Request.{Release}
+use Rattle.model_line.specs.Request.{Establish, Release}
 pub use Rattle.laws_link.specs.States.{is_sabme}
 use Rattle.laws_line.specs.Heard.{notes_of}
 use Rattle.laws_line.specs.Share.{is_granted}
@@ -32,7 +32,7 @@ is_news service tei (Xid of by) = is_own service tei of by
 is_news service tei (Error of by code) = is_own service tei of by
 is_news service tei other = false
 
--- The terminal sends SABME, or XID; and layer 3 asks for the release.
+-- The terminal sends SABME, or XID; and layer 3 asks for the release, or for the establishment.
 abbrev pub brings : (Control → Bool) → Config → Service → ℕ → line_event.Event → Bool
 brings is c service tei what = option_map_or (λ (f : Parts). is f.control) (brought c service tei what) false
 
@@ -44,12 +44,19 @@ abbrev pub releases : Service → ℕ → line_event.Event → Answer → Bool
 releases service tei (request (Release of by)) a = is_granted a && is_own service tei of by
 releases service tei other a = false
 
+abbrev pub establishes : Service → ℕ → line_event.Event → Answer → Bool
+establishes service tei (request (Establish of by)) a = is_granted a && is_own service tei of by
+establishes service tei other a = false
+
 -- What is due as a link comes to a state, or stays in it. Where it comes to state 7 from state 4, the terminal established
 -- it, which is an indication; from state 5 a confirm, if layer 3 asked for it; and if not, or if the terminal establishes a
 -- link anew by SABME, an indication where I-frames are outstanding, or nothing (clauses 5.5.1.2 and 5.7). Where it comes
--- to state 4 from state 6, or its TEI leaves, and where layer 3 releases a link in state 4, that is a confirm, and from
--- other states an indication (clauses 5.3.4, 5.5.1.2, 5.5.1.3, 5.5.3.2 and 5.5.3.3). XID is told, and moves nothing
--- (profile).
+-- to state 4 from state 6, or from state 5 while a release is owed (annex B), or its TEI leaves then, and where layer 3
+-- releases a link in state 4, that is a confirm, and from other states an indication (clauses 5.3.4, 5.5.1.2, 5.5.1.3,
+-- 5.5.3.2 and 5.5.3.3). XID is told, and moves nothing (profile).
+abbrev pub awaits_release : Observed → Bool
+awaits_release o = o.state == 6 || (o.state == 5 && o.owed)
+
 abbrev pub due : Service → ℕ → Bool → Bool → Bool → Observed → ℕ → List Note
 due service tei xid sabme released was to =
     if xid then Xid service tei ∷ []
@@ -57,7 +64,7 @@ due service tei xid sabme released was to =
     (if was.state == 4 then EstablishIndication service tei ∷ [] else if was.state == 5 && was.asked then EstablishConfirm service tei ∷ []
     else if (was.state == 5 || sabme) && is_outstanding was then EstablishIndication service tei ∷ [] else [])
     else if nat_le to 4 then
-    (if was.state == 6 || (was.state == 4 && released) then ReleaseConfirm service tei ∷ [] else if was.state == 4 then [] else ReleaseIndication service tei ∷ [])
+    (if awaits_release was || (was.state == 4 && released) then ReleaseConfirm service tei ∷ [] else if was.state == 4 then [] else ReleaseIndication service tei ∷ [])
     else []
 
 -- The errors of a link, by the state before and the one to which it comes (appendix II). In states 7 and 8 an N(R) that leads to

@@ -31,8 +31,9 @@ use Rattle.laws_trace.specs.Trace.{is_own, is_up, frame_in}
 -- The state (Q.921 annex B: 1 where the TEI is not on the line). Of this side how many contents were told since the
 -- numbers began, which is V(R); whether layer 3 is busy; and whether an I-frame was rejected, and none taken since. Of
 -- the other side the N(R) that was heard last, to which V(A) is set; the N(S) of the I-frame that goes next, which is
--- V(S); and whether the terminal is busy. Of state 5 whether layer 3 asked for it, and whether I-frames were outstanding
--- as the link came there; and of states 5, 6 and 8 how often T200 expired there.
+-- V(S); and whether the terminal is busy. Of state 5 whether layer 3 asked for it, or is owed a release that it asked for
+-- there (annex B), and whether I-frames were outstanding as the link came there; and of states 5, 6 and 8 how often T200
+-- expired there.
 pub record Observed : Type 0 where
   pub state : ℕ
   pub count : ℕ
@@ -42,11 +43,12 @@ pub record Observed : Type 0 where
   pub next : ℕ
   pub busy : Bool
   pub asked : Bool
+  pub owed : Bool
   pub outstanding : Bool
   pub expiries : ℕ
 
 abbrev pub in_state : ℕ → Observed
-in_state n = record { state = n; count = 0; own_busy = false; rejected = false; acknowledged = 0; next = 0; busy = false; asked = false; outstanding = false; expiries = 0 }
+in_state n = record { state = n; count = 0; own_busy = false; rejected = false; acknowledged = 0; next = 0; busy = false; asked = false; owed = false; outstanding = false; expiries = 0 }
 
 -- I-frames are outstanding that went, are not acknowledged and are not to go again (clauses 5.6.1, 5.6.4 and 5.6.7).
 abbrev pub is_outstanding : Observed → Bool
@@ -60,7 +62,7 @@ awaits o = o.state == 5 || o.state == 6 || o.state == 8 || (o.state == 7 && (o.b
 -- A link is established anew (clause 5.7.2). What was told, whether layer 3 is busy, and whether an I-frame was rejected
 -- hold until the numbers begin.
 abbrev pub anew : Observed → Observed
-anew o = record o { state = 5; acknowledged = 0; next = 0; busy = false; asked = false; outstanding = not (o.next == o.acknowledged); expiries = 0 }
+anew o = record o { state = 5; acknowledged = 0; next = 0; busy = false; asked = false; owed = false; outstanding = not (o.next == o.acknowledged); expiries = 0 }
 
 -- The information of an I-frame is taken, and told, where its N(S) is the next, V(R), and else the frame is rejected;
 -- neither is it while layer 3 is busy (clauses 5.6.2, 5.6.6 and 5.8.1).
@@ -110,13 +112,15 @@ while_up long command (Ui p) o = if long then anew o else o
 while_up long command other o = o
 
 -- In states 4, 5 and 6 (clauses 5.5.1.2, 5.5.3.2, 5.5.5 and 5.8.7); in state 1 nothing. By annex B the other side asks for
--- an establishment by DM with F=0 in state 4, as if layer 3 did (clause 5.5.4).
+-- an establishment by DM with F=0 in state 4, as if layer 3 did (clause 5.5.4). In state 5 UA with F=1 establishes the
+-- link, or is answered by DISC, if a release is owed (annex B).
 abbrev pub asked_for : Observed
 asked_for = record (in_state 5) { asked = true }
 
 abbrev pub while_down : Config → Control → Observed → Observed
 while_down c (Sabme p) o = if o.state == 4 then in_state 7 else o
-while_down c (Ua f) o = if f && o.state == 5 then in_state 7 else if f && o.state == 6 then in_state 4 else o
+while_down c (Ua f) o =
+    if f && o.state == 5 then in_state (if o.owed then 6 else 7) else if f && o.state == 6 then in_state 4 else o
 while_down c (Dm f) o = if f && (o.state == 5 || o.state == 6) then in_state 4 else if not f && o.state == 4 then by_reading c.reading o asked_for else o
 while_down c other o = o
 
@@ -128,15 +132,26 @@ abbrev pub by_heard : Config → Service → ℕ → stream.Event → Observed �
 by_heard c service tei e o =
     if is_up o.state && is_some (malformed c service tei e) then anew o else option_map_or (by_frame c o) (its_frame service tei (frame_of c e)) o
 
+-- By annex B layer 3 may ask in state 5, too: for the establishment that is awaited, or for the release, which is owed from
+-- then on. Either gives up what the link keeps, so that no I-frame is outstanding any more.
+abbrev pub decides : Config → Bool → Observed → Observed
+decides c establish o = by_reading c.reading o (record o { asked = establish; owed = not establish; outstanding = false })
+
 -- What layer 3 asks, and is granted: that the link is established, or released (clauses 5.5.1.1 and 5.5.3.1); or, as its line
 -- is down, deactivated (annex B); and that it is busy, or no more (clause 5.6.6).
-abbrev pub by_request : Service → ℕ → Request → Observed → Observed
-by_request service tei (Establish of by) o = if is_own service tei of by && o.state == 4 then asked_for else o
-by_request service tei (Release of by) o = if is_own service tei of by && is_up o.state then in_state 6 else o
-by_request service tei (Deactivate of by) o = if is_own service tei of by then in_state 4 else o
-by_request service tei (SetBusy of by) o = if is_own service tei of by then record o { own_busy = true } else o
-by_request service tei (ClearBusy of by) o = if is_own service tei of by then record o { own_busy = false } else o
-by_request service tei other o = o
+abbrev pub by_establish : Config → Observed → Observed
+by_establish c o = if o.state == 4 then asked_for else if o.state == 5 then decides c true o else o
+
+abbrev pub by_release : Config → Observed → Observed
+by_release c o = if is_up o.state then in_state 6 else if o.state == 5 then decides c false o else o
+
+abbrev pub by_request : Config → Service → ℕ → Request → Observed → Observed
+by_request c service tei (Establish of by) o = if is_own service tei of by then by_establish c o else o
+by_request c service tei (Release of by) o = if is_own service tei of by then by_release c o else o
+by_request c service tei (Deactivate of by) o = if is_own service tei of by then in_state 4 else o
+by_request c service tei (SetBusy of by) o = if is_own service tei of by then record o { own_busy = true } else o
+by_request c service tei (ClearBusy of by) o = if is_own service tei of by then record o { own_busy = false } else o
+by_request c service tei other o = o
 
 -- What runs out. The timer that runs in state 7 leads to an enquiry, in state 8 (clauses 5.6.7 and 5.10.3). In states 5,
 -- 6 and 8 T200 repeats SABME, DISC or the enquiry, N200 times, and then the link is given up, or established anew
@@ -173,7 +188,7 @@ by_frame_begun c service tei o octets = option_map_or (λ (f : Parts). sends o f
 abbrev pub by_event : Config → Service → ℕ → line_event.Event → Answer → Observed → Observed
 by_event c service tei (hears e) a o = by_heard c service tei e o
 by_event c service tei (expiry timer) a o = by_expiry c service tei timer o
-by_event c service tei (request r) a o = if is_granted a then by_request service tei r o else o
+by_event c service tei (request r) a o = if is_granted a then by_request c service tei r o else o
 by_event c service tei line_event.next a o = fold (by_frame_begun c service tei) o (frame_in a)
 
 -- The link comes to another state, or T200 expires and leaves it in the one that it is in.

@@ -18,7 +18,7 @@ use Rattle.laws_line.specs.Share.{is_granted}
 use Rattle.laws_trace.specs.ControlFrames.{put_in}
 use Rattle.laws_trace.specs.LinkFrames.{is_frame_of}
 use Rattle.laws_trace.specs.Managing.{is_on}
-use Rattle.laws_trace.specs.News.{brings, is_sabme, releases}
+use Rattle.laws_trace.specs.News.{brings, establishes, is_sabme, releases}
 use Rattle.laws_trace.specs.Observer.{Observed, View, at_first, steps, views}
 use Rattle.laws_trace.specs.Trace.{is_own, is_up, frame_in}
 
@@ -35,10 +35,11 @@ abbrev pub data_granted : Service → ℕ → line_event.Event → Answer → Li
 data_granted service tei (request (Data of by contents)) a = if is_granted a && is_own service tei of by then contents ∷ [] else []
 data_granted service tei other a = []
 
--- Layer 3 learns that a link keeps nothing, by a release or a deactivation of it that is granted, or by a note: an
--- indication of its establishment, or an indication or a confirm of its release (Q.921 clauses 5.5.3.2 and 5.7).
+-- Layer 3 learns that a link keeps nothing, by an establishment, a release or a deactivation of it that is granted, or by a
+-- note: an indication of its establishment, or an indication or a confirm of its release (Q.921 clauses 5.5.1.1, 5.5.3.2 and
+-- 5.7). (In state 4 it keeps nothing; by annex B establishments are granted in state 5, too.)
 abbrev pub loses : Service → ℕ → line_event.Event → Answer → Bool
-loses service tei what a = releases service tei what a || (deactivates service tei what && is_granted a) || list_any (is_loss_of service tei) (notes_of a)
+loses service tei what a = establishes service tei what a || releases service tei what a || (deactivates service tei what && is_granted a) || list_any (is_loss_of service tei) (notes_of a)
 
 -- How far V(A) goes on in states 7 and 8: by the N(R) that is heard, and not where SABME begins the numbers anew, or the
 -- link leaves these states (clauses 3.5.2.3 and 5.5.1.2).

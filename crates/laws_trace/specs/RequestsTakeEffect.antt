@@ -20,10 +20,11 @@ use Rattle.model_card.specs.Event.{Event, at}
 use Rattle.model_card.specs.Run.{after_all}
 use Rattle.laws_trace.specs.ControlFrames.{changed}
 use Rattle.laws_trace.specs.Managing.{is_on}
-use Rattle.laws_trace.specs.News.{is_news}
+use Rattle.laws_trace.specs.News.{awaits_release, is_news}
 use Rattle.laws_trace.specs.NoSlotIsLost.{slots_taken}
-use Rattle.laws_trace.specs.Observer.{Observed, in_state, moment_of}
+use Rattle.laws_trace.specs.Observer.{Observed, decides, in_state, moment_of}
 use Rattle.laws_trace.specs.Outgoing.{Outgoing, outgoing_of}
+use Rattle.laws_trace.specs.Reasons.{may_establish, may_release}
 use Rattle.laws_trace.specs.Trace.{is_up}
 
 -- What follows: how the link stands; the control frames that wait, and the contents that it keeps, oldest first; and the news
@@ -44,15 +45,21 @@ turns c busy o =
     let now = record o.view.link { own_busy = busy } in
     if is_up now.state then Ok (record (puts c (changed o.view.link now) o) { link = now }) else Err WrongState
 
+-- In state 5, by annex B: a confirm of the establishment is due, or of the release, and nothing is kept.
+abbrev pub decided : Config → Bool → Outgoing → Effect
+decided c establish o = record (puts c [] o) { link = decides c establish o.view.link; kept = [] }
+
 -- By the state of the link what layer 3 asks is refused, or has this effect; the bit says that no slot of the pool is free.
 abbrev pub effect : Config → Bool → Service → ℕ → Outgoing → link.Request → Result Effect Refusal
 -- SABME waits, and a confirm is due as it is answered (clause 5.5.1.1);
 effect c full service tei o link.Establish =
-    if o.view.link.state == 4 then Ok (record (puts c (as_command (Sabme true)) o) { link = record (in_state 5) { asked = true } }) else Err WrongState
+    if o.view.link.state == 4 then Ok (record (puts c (as_command (Sabme true)) o) { link = record (in_state 5) { asked = true } })
+    else if may_establish c o.view.link then Ok (decided c true o) else Err WrongState
 -- DISC waits, and a confirm is due as it is answered; or that is told of a link that is down (clauses 5.5.3.1 and 5.5.3.2, annex B);
 effect c full service tei o link.Release =
     if is_up o.view.link.state then Ok (record (puts c (as_command (Disc true)) o) { link = in_state 6; kept = [] })
-    else if o.view.link.state == 4 then Ok (record (puts c [] o) { kept = []; told = ReleaseConfirm service tei ∷ [] }) else Err WrongState
+    else if o.view.link.state == 4 then Ok (record (puts c [] o) { kept = []; told = ReleaseConfirm service tei ∷ [] })
+    else if may_release c o.view.link then Ok (decided c false o) else Err WrongState
 -- the contents come behind those that are kept (clause 5.6.1 and profile);
 effect c full service tei o (link.Data contents) =
     if not (is_up o.view.link.state) then Err WrongState else if nat_lt c.n201 (length contents) then Err TooLong
@@ -65,7 +72,7 @@ effect c full service tei o link.ClearBusy = turns c false o
 -- A link that is deactivated is in state 4, has nothing to send, and tells its end (annex B).
 abbrev pub deactivated : Service → ℕ → Observed → Effect
 deactivated service tei l =
-    let told = if l.state == 4 then [] else if l.state == 6 then ReleaseConfirm service tei ∷ [] else ReleaseIndication service tei ∷ [] in
+    let told = if l.state == 4 then [] else if awaits_release l then ReleaseConfirm service tei ∷ [] else ReleaseIndication service tei ∷ [] in
     record { link = in_state 4; waiting = []; kept = []; told = told }
 
 -- All of it is refused for a TEI that no terminal has, and for one that is not on the line (profile).

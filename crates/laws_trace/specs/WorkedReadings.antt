@@ -103,6 +103,14 @@ asked_anew : owed_after annex_b (asks ∷ calls 1 ++ asks ∷ []) ≡ IdentityAs
 unfolding exchanged read_by reading header_of control_of unnumbered_of
 asked_anew = refl
 
+-- Octets that follow the five of a message are not looked at; in the profile it is not served.
+abbrev longer : Event
+longer = says (0x01 ∷ 0xFF ∷ 0x00 ∷ [])
+
+asked_longer : owed_after annex_b (longer ∷ []) ∷ owed_after usual (longer ∷ []) ∷ [] ≡ (IdentityAssigned 0x1234 64 ∷ []) ∷ [] ∷ []
+unfolding exchanged read_by reading header_of control_of unnumbered_of
+asked_longer = refl
+
 of_its_own : owed_after annex_b (says (0x01 ∷ 0x8D ∷ []) ∷ []) ≡ IdentityDenied 0x1234 70 ∷ []
 unfolding exchanged read_by reading header_of control_of unnumbered_of
 of_its_own = refl
@@ -134,12 +142,12 @@ next_checked : owed_after annex_b (one_left ++ expires ∷ []) ≡ IdentityRemov
 unfolding exchanged read_by reading header_of control_of unnumbered_of
 next_checked = refl
 
--- One response may name both, in octets of which the last alone ends with bit 1.
-named : (several (managed_after annex_b 0 both) (0x80 ∷ 0x83 ∷ [])) ≡ several (managed_after annex_b 0 both) (0x82 ∷ 0x81 ∷ [])
+-- One response may name both, in octets of which the last alone ends with bit 1. What follows that is not looked at.
+named : (several (managed_after annex_b 0 both) (0x80 ∷ 0x83 ∷ [])) ≡ several (managed_after annex_b 0 both) (0x82 ∷ 0x81 ∷ 0x00 ∷ [])
 unfolding exchanged read_by reading header_of control_of unnumbered_of
 named = refl
 
-not_named : several (managed_after annex_b 0 both) (0x81 ∷ 0x83 ∷ []) ∷ several (managed_after annex_b 0 both) (0x82 ∷ 0x85 ∷ []) ∷ [] ≡ None ∷ None ∷ []
+not_named : several (managed_after annex_b 0 both) (0x83 ∷ 0x81 ∷ []) ∷ several (managed_after annex_b 0 both) (0x82 ∷ 0x80 ∷ []) ∷ [] ≡ None ∷ None ∷ []
 unfolding exchanged read_by reading header_of control_of unnumbered_of
 not_named = refl
 

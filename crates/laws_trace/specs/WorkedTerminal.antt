@@ -3,6 +3,7 @@ use Rattle.std.specs.Prelude.{◌≡◌, ℕ, List, [], ◌∷◌, ◌++◌, Opt
 use Rattle.model_bits.specs.Stream as stream
 use Rattle.model_bits.specs.declared.heard.Cause.{Cause}
 use Rattle.model_bits.specs.declared.heard.Cause.TheVariants.{Unserved}
+use Rattle.lapd_frame.specs.declared.readings.Reading.TheVariants.{AnnexB}
 use Rattle.lapd_frame.specs.declared.refusals.Refusal.{Refusal}
 use Rattle.lapd_frame.specs.declared.refusals.Refusal.TheVariants.{WrongSide, NoLink, TableFull, CheckRunning}
 use Rattle.lapd_frame.specs.Reading.{reading, header_of, control_of, unnumbered_of}
@@ -60,6 +61,28 @@ not_asked = refl
 in_a_response : both terminal asking (frame 0xFC 2 0x34 0x81) ≡ unserved
 unfolding after_all lines.after lines.answer lines.takes_slot terminals.course exchanged read_by reading header_of control_of unnumbered_of
 in_a_response = refl
+
+-- By annex B it takes a TEI below 64, too, and octets may follow the five of a message; in the profile neither is served.
+abbrev annex_b : Config
+annex_b = record terminal { reading = AnnexB }
+
+abbrev below_64 : line_event.Event
+below_64 = frame 0xFE 2 0x34 0x0B
+
+abbrev longer : line_event.Event
+longer = hears (stream.frame (0xFE ∷ 0xFF ∷ 0x03 ∷ 0x0F ∷ 0x12 ∷ 0x34 ∷ 2 ∷ 0x0B ∷ 0x00 ∷ []))
+
+taken : both annex_b asking below_64 ++ both annex_b asking longer ≡ neither ++ neither
+unfolding after_all lines.after lines.answer lines.takes_slot terminals.course exchanged read_by reading header_of control_of unnumbered_of
+taken = refl
+
+not_taken : both terminal asking below_64 ++ both terminal asking longer ≡ unserved ++ unserved
+unfolding after_all lines.after lines.answer lines.takes_slot terminals.course exchanged read_by reading header_of control_of unnumbered_of
+not_taken = refl
+
+taken_by_its_request : both annex_b [] below_64 ++ both annex_b asking (frame 0xFE 2 0x35 0x0B) ++ both annex_b asking (frame 0xFE 2 0x34 0xFF) ≡ unserved ++ unserved ++ unserved
+unfolding after_all lines.after lines.answer lines.takes_slot terminals.course exchanged read_by reading header_of control_of unnumbered_of
+taken_by_its_request = refl
 
 -- Its TEI is assigned to another terminal; checked, and so is one that it does not have; and it is denied one.
 doubted : both terminal on (frame 0xFE 2 0x34 0x81) ≡ neither

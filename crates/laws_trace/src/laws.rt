@@ -109,9 +109,9 @@ pub fn what_is_told_was_heard()
 ///
 /// **What is kept.** A link keeps data from when it is granted, in order, each once, until V(A) passes it, in states 7
 /// and 8 by the N(R) that is heard. It keeps it no longer if its TEI leaves, or layer 3 learns that all is lost. Layer 3
-/// learns it by a release or a deactivation that is granted, an indication of the establishment, or an indication or a
-/// confirm of the release, which are told as [`news_is_told`] has them. So contents stay when the numbers begin and none
-/// of these is told.
+/// learns it by an establishment, a release or a deactivation that is granted, an indication of the establishment, or an
+/// indication or a confirm of the release, which are told as [`news_is_told`] has them. So contents stay when the numbers
+/// begin and none of these is told.
 ///
 /// **Control frames** wait from when they are due until they begin, the link is deactivated, or its TEI leaves the line.
 /// The last of a moment do not, as many as its answer counts as lost. These are due, by the state of the link before:
@@ -197,6 +197,7 @@ pub fn given_up_is_told()
 /// stopped.
 ///
 /// By annex B the terminals of a TEI of which none answered are owed a removal, too. One response may name up to 64 TEIs.
+/// Octets that follow these, or the five of another message, are not looked at, here and at a terminal.
 /// If a TEI is verified while another is checked, its terminal is asked at once, unless that is owed, and the TEI is
 /// checked later: as a check is over, that at the lowest place is, and T201 is started, not stopped.
 ///
@@ -216,8 +217,8 @@ pub fn given_up_is_told()
 ///
 /// - *It asks* for a TEI by a granted request, if it has room for one and has no other procedure. It asks three times at
 ///   most, with a new reference number each time, as T202 expires; then it tells that none was assigned. A TEI of 64 to
-///   126 that is assigned by the number of the latest request comes to the line, and is told. A denial by that number is
-///   told, and ends nothing.
+///   126, by annex B of 0 to 126, that is assigned by the number of the latest request comes to the line, and is told. A
+///   denial by that number is told, and ends nothing.
 /// - *It verifies* a TEI on its line by a granted request, and if that is assigned to another terminal. It asks the
 ///   network for a check twice. If no check comes until T202 expires again, the TEI leaves, which is told.
 /// - *It answers* a check of its TEI, and of each of its TEIs if all are checked. *It gives up* a TEI that the network
@@ -268,15 +269,18 @@ pub fn timers_run()
 /// an observer of the line has it (`Observer` of specs/), and none if its TEI is not on the line. As the TEI comes, that
 /// is 4. Then it is
 ///
-/// - 7 by SABME in states 4, 7 and 8, and by UA with F=1 in state 5;
+/// - 7 by SABME in states 4, 7 and 8, and by UA with F=1 in state 5, unless a release is owed;
 /// - 7 in state 8 by RR, RNR or REJ as a response with F=1 whose N(R) is valid;
 /// - 4 by DISC in states 7 and 8, and by a deactivation in any state;
 /// - 4 by DM with F=1 in states 5 and 6, and by UA with F=1 in state 6;
 /// - 5 by a request to establish it in state 4, and by DM with F=0 in state 7, by annex B also in state 4;
 /// - 5 in states 7 and 8 by FRMR, an invalid N(R), a malformed frame, and an I-frame that is too long, by annex B also a
 ///   UI, and in state 8 by any DM;
-/// - 6 by a request to release it in states 7 and 8;
+/// - 6 by a request to release it in states 7 and 8, and by UA with F=1 in state 5 if a release is owed;
 /// - 8 by the expiry of the timer that runs in state 7.
+///
+/// A release is owed, by annex B alone, from when one is granted in state 5, until the link leaves that state or layer 3 is
+/// granted its establishment there.
 ///
 /// As T200 expires in states 5, 6 and 8, the link leaves them, for 4, 4 and 5, if it has expired N200 times before since
 /// the link came there. By annex B the expiry that leads from state 7 to 8 is one of these, unless N200 is 0. Nothing else
@@ -291,8 +295,8 @@ pub fn links_move()
 /// expiries of its timers, requests of it that are granted, and its frames that begin. What they show is counted as
 /// `counts_are_true` of `laws_link` has it, and begins anew as the link is deactivated. It is how many I-frames began whose
 /// number had begun before in the same establishment, how often T200 expired while it ran, how many REJ began, how many came in
-/// states 7 and 8, and how often the link was established. No number is over 65535 (Q.921 clauses 5.5.1.2, 5.6.1, 5.6.4, 5.7,
-/// 5.8.1 and 5.9.1, annex B, and profile).
+/// states 7 and 8, and how often the link was established. UA that leads to state 6 does not establish it. No number is over
+/// 65535 (Q.921 clauses 5.5.1.2, 5.6.1, 5.6.4, 5.7, 5.8.1 and 5.9.1, annex B, and profile).
 pub fn link_counters_count()
     ensures { Always LinkCountersCount }
 {}
@@ -302,11 +306,12 @@ pub fn link_counters_count()
 /// is:
 ///
 /// - an establish indication as the link comes from state 4 to state 7;
-/// - as it comes to state 7 from state 5, a confirm if layer 3 asked for that establishment;
+/// - as it comes to state 7 from state 5, a confirm if layer 3 asked for that establishment, by annex B also in state 5;
 /// - an establish indication, too, if this side began it, or the terminal establishes a link anew by SABME. It is told
 ///   exactly if an I-frame is outstanding, as [`timers_are_timely`] has it; in state 5 as it was when the link came
 ///   there;
-/// - a release confirm as it comes from state 6 to its end or to state 4, or is released in state 4;
+/// - a release confirm as it comes from state 6 to its end or to state 4, or from state 5 while a release is owed, as
+///   [`links_move`] has it, or is released in state 4;
 /// - a release indication as it comes there from another state;
 /// - XID that is heard of it.
 ///

@@ -14,8 +14,9 @@ ghost use Rattle.laws_trace.specs.RoomsAreTold.{NoRoomIsTold, RoomsAreTold};
 /// **Of a link** they are, in this order:
 ///
 /// - the TEI is over 126, or it is not on the line;
-/// - the state does not serve the request. State 4 serves the establishment, and 4, 7 and 8 the release. States 7 and 8
-///   serve data, and that layer 3 is busy, or is so no more. Every state serves a deactivation;
+/// - the state does not serve the request. State 4 serves the establishment, and 4, 7 and 8 the release. By annex B state
+///   5 serves the establishment, and the release while none is owed, as [`links_move`] has this. States 7 and 8 serve
+///   data, and that layer 3 is busy, or is so no more. Every state serves a deactivation;
 /// - the data has more than N201 octets;
 /// - the link keeps as many contents as it may, as [`what_is_given_is_due`] has these;
 /// - the pool has no slot that is free, as [`no_slot_is_lost`] has these.
@@ -46,6 +47,8 @@ pub fn answers_suit_events()
 /// - `Card::state` tells 5 of a link that is to be established, and 6 of one that is to be released. SABME or DISC waits
 ///   then, and layer 3 is told of the answer, or that none comes, as [`news_is_told`] has it. The release of a link in
 ///   state 4 is confirmed in the answer.
+/// - By annex B a link in state 5 stays there, whichever of the two is granted. It keeps no contents then, and no frame
+///   waits that did not.
 /// - Data comes after what the link keeps.
 /// - RNR or RR waits as layer 3 comes to be busy, or is so no more.
 /// - A link that is deactivated is in state 4, has nothing to send, and its end is told in the answer.

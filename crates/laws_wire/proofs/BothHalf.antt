@@ -1,9 +1,9 @@
 -- A call of which one end is up, and its UA waits or is on its way; and then both are up.
-use Rattle.laws_wire.proofs.Vocabulary.{◌≡◌, ℕ, ◌+◌, ◌*◌, ◌≤◌, false, List, [], length, None, refl, sym, ap, subst, ◌∙◌, ◌⊎◌, inl, inr, arith, if◌then◌else◌, Service, spelling, Terms, is_down, IsInRange, LinkEndpoint, with_sent, Config, terms, LineTold, request, next, weight_at, Pair, refusal, Data, Endpoint, Wire, happens, frames_by, EndStep, requests, sends}
+use Rattle.laws_wire.proofs.Vocabulary.{◌≡◌, ℕ, ◌+◌, ◌*◌, ◌≤◌, false, List, [], length, None, refl, sym, ap, subst, ◌∙◌, ◌⊎◌, inl, inr, arith, if◌then◌else◌, Service, spelling, Terms, IsInRange, LinkEndpoint, with_sent, Config, terms, LineTold, request, next, weight_at, Pair, refusal, Data, Endpoint, Wire, happens, frames_by, EndStep, requests, sends}
 use Rattle.laws_wire.proofs.Vocabulary.{receives, StepAt, at_near, at_far, acting, turned, doing, is_turn_of, is_turn, answered, IsTalkOf, IsTalk, confirmed, LinkData, own_side}
 use Rattle.laws_wire.proofs.Answered.{gives-granted}
 use Rattle.laws_wire.proofs.Asking.{with_more}
-use Rattle.laws_wire.proofs.BothAsking.{Refuses, refuses}
+use Rattle.laws_wire.proofs.BothAsking.{Keeps, Refuses, is_free, calls-still, keeps, refuses}
 use Rattle.laws_wire.proofs.Calling.{ua, awaiting, caller, end, none-granted-awaiting, with_ua_waiting, with_ua_first, sends-ua}
 use Rattle.laws_wire.proofs.Talking.{Face, Past, unheard, after_note, Holds, holds-given, holds-lost, fits, More, holds-asked}
 use Rattle.laws_wire.proofs.Quiet.{one-at-most, Both, turned-both, frames-are, quiet-takes, for-data, quiet-acts, hears-first, hears-granted}
@@ -216,13 +216,13 @@ module _ (service : Service) (tei : ℕ) where
     step (at_far act) is w weight (inr (inl h)) = from-awaited-far act is w weight h
     step other is w weight (inr (inr h)) = from-up other is w weight h
 
-    -- neither end is granted an establishment then
-    pub near-refuses : (w : Wire) (weight : ℕ) → Half w weight → Refuses service tei w.near
-    near-refuses w weight (inl h) = refuses service tei p c unheard w.near (end t awaiting []) h.both.near refl
-    near-refuses w weight (inr (inl h)) = refuses service tei p c unheard w.near (end t awaiting []) h.both.near refl
-    near-refuses w weight (inr (inr h)) = refuses service tei p c (after_note (confirmed service tei)) w.near h.n h.talk.near (ap is_down h.talk.pair.near.state)
+    -- neither end changes by an establishment that is asked for then
+    pub near-keeps : (w : Wire) (weight : ℕ) → Half w weight → Keeps service tei w.near
+    near-keeps w weight (inl h) = keeps service tei p c unheard w.near (end t awaiting []) h.both.near refl (calls-still awaiting refl refl refl refl refl refl)
+    near-keeps w weight (inr (inl h)) = keeps service tei p c unheard w.near (end t awaiting []) h.both.near refl (calls-still awaiting refl refl refl refl refl refl)
+    near-keeps w weight (inr (inr h)) = (refuses service tei p c (after_note (confirmed service tei)) w.near h.n h.talk.near (ap is_free h.talk.pair.near.state)).same
 
     pub far-refuses : (w : Wire) (weight : ℕ) → Half w weight → Refuses service tei w.far
-    far-refuses w weight (inl h) = refuses service tei q d second w.far (with_ua_waiting h.m) h.both.far (ap is_down h.pair.far.state)
-    far-refuses w weight (inr (inl h)) = refuses service tei q d second w.far (with_ua_first h.m) h.both.far (ap is_down h.pair.far.state)
-    far-refuses w weight (inr (inr h)) = refuses service tei q d second w.far h.m h.talk.far (ap is_down h.talk.pair.far.state)
+    far-refuses w weight (inl h) = refuses service tei q d second w.far (with_ua_waiting h.m) h.both.far (ap is_free h.pair.far.state)
+    far-refuses w weight (inr (inl h)) = refuses service tei q d second w.far (with_ua_first h.m) h.both.far (ap is_free h.pair.far.state)
+    far-refuses w weight (inr (inr h)) = refuses service tei q d second w.far h.m h.talk.far (ap is_free h.talk.pair.far.state)

@@ -2,7 +2,7 @@
 use Rattle.laws_wire.proofs.Vocabulary.{◌≡◌, ℕ, ◌+◌, ◌*◌, ◌≤◌, Bool, true, false, cond, ◌||◌, [], ◌∷◌, length, refl, sym, ap, subst, ◌⊎◌, inl, inr, arith, if◌then◌else◌, Service, Terms, fresh, IsInRange, Config, terms, next, Establish, Wire, frames_by, EndStep, requests, sends, receives, StepAt, at_near, at_far, acting, turned, doing, is_turn_of}
 use Rattle.laws_wire.proofs.Vocabulary.{is_turn, answered, IsTalkOf, IsTalk, IsCall, calls_back, confirmed, indicated, told_first}
 use Rattle.laws_wire.proofs.Answered.{gives-granted}
-use Rattle.laws_wire.proofs.BothAsking.{Kind, talks, near_calls, far_calls, kind, Refuses, refuses, calls}
+use Rattle.laws_wire.proofs.BothAsking.{Kind, talks, near_calls, far_calls, kind, Keeps, Refuses, calls-still, keeps, calls}
 use Rattle.laws_wire.proofs.BothHalf as half
 use Rattle.laws_wire.proofs.BothHalf.{lower}
 use Rattle.laws_wire.proofs.BothCrossing as crossed
@@ -118,7 +118,11 @@ module _ (service : Service) (tei : ℕ) where
     HalfWent both w w' before b = half.Stepped service tei (told_first service tei both) c d p q face back rt w w' before b
 
     as-half : (both : Bool) (w w' : Wire) (before b : ℕ) → HalfWent both w w' before b → Went both w w' before b
-    as-half both w w' before b x = grind arith
+    as-half both w w' before b x = record { weight = x.weight; goes = go both x.goes; price = x.price }
+      where
+        go : (both : Bool) → OneHalf both w' x.weight → Goes both w' x.weight
+        go false h = inr (inr h)
+        go true h = inr (inl h)
 
     -- ---- both call
 
@@ -129,7 +133,8 @@ module _ (service : Service) (tei : ℕ) where
     NearFirst w weight = crossed.NearFirst service tei c d p q face back rt ru w weight
 
     near-goes : (w : Wire) (weight : ℕ) → Crossing w weight ⊎ NearFirst w weight → Goes true w weight
-    near-goes w weight o = grind arith
+    near-goes w weight (inl h) = inl h
+    near-goes w weight (inr h) = inr (inr h)
 
     crossed-near : (act : EndStep) → IsTalkOf service tei act → (w : Wire) (weight : ℕ) → Crossing w weight → Went true w (acting act w) weight (if is_turn_of act w then 1 else 0)
     crossed-near act is w weight h =
@@ -145,7 +150,8 @@ module _ (service : Service) (tei : ℕ) where
     crossing-back v weight h = grind (arith, turned-order, turned-both, unheard)
 
     far-goes : (v : Wire) (weight : ℕ) → CrossingTurned v weight ⊎ FarFirst v weight → Goes true (turned v) weight
-    far-goes v weight o = grind (arith, crossing-back)
+    far-goes v weight (inl h) = inl (crossing-back v weight h)
+    far-goes v weight (inr h) = inr (inl h)
 
     crossed-far : (act : EndStep) → IsTalkOf service tei act → (w : Wire) (weight : ℕ) → Crossing w weight → Went true w (turned (acting act (turned w))) weight (if is_turn_of act (turned w) then 1 else 0)
     crossed-far act is w weight h =
@@ -194,13 +200,13 @@ module _ (service : Service) (tei : ℕ) where
 
     -- ---- the link is asked for
 
-    near-refuses : (both : Bool) (w : Wire) (weight : ℕ) → Goes both w weight → Refuses service tei w.near
-    near-refuses false w weight (inl h) = refuses service tei p c unheard w.near (end t asked []) h.both.near refl
-    near-refuses false w weight (inr (inl h)) = refuses service tei p c unheard w.near (end t awaiting (sabme t ∷ [])) h.both.near refl
-    near-refuses false w weight (inr (inr h)) = half.near-refuses service tei (indicated service tei) c d p q face back rt w weight h
-    near-refuses true w weight (inl h) = refuses service tei p c unheard w.near _ h.both.near refl
-    near-refuses true w weight (inr (inl h)) = half.near-refuses service tei (confirmed service tei) c d p q face back rt w weight h
-    near-refuses true w weight (inr (inr h)) = half.far-refuses service tei (confirmed service tei) d c q p back face ru (turned w) weight h
+    near-keeps : (both : Bool) (w : Wire) (weight : ℕ) → Goes both w weight → Keeps service tei w.near
+    near-keeps false w weight (inl h) = keeps service tei p c unheard w.near (end t asked []) h.both.near refl (calls-still asked refl refl refl refl refl refl)
+    near-keeps false w weight (inr (inl h)) = keeps service tei p c unheard w.near (end t awaiting (sabme t ∷ [])) h.both.near refl (calls-still awaiting refl refl refl refl refl refl)
+    near-keeps false w weight (inr (inr h)) = half.near-keeps service tei (indicated service tei) c d p q face back rt w weight h
+    near-keeps true w weight (inl h) = keeps service tei p c unheard w.near _ h.both.near refl (calls-still _ refl refl refl refl refl refl)
+    near-keeps true w weight (inr (inl h)) = half.near-keeps service tei (confirmed service tei) c d p q face back rt w weight h
+    near-keeps true w weight (inr (inr h)) = (half.far-refuses service tei (confirmed service tei) d c q p back face ru (turned w) weight h).same
 
     -- what is done, whoever calls
     pub record Stepped (both : Bool) (k : StepAt) (w : Wire) (before b : ℕ) : Type 0 where
@@ -215,10 +221,22 @@ module _ (service : Service) (tei : ℕ) where
     not-moved both w w' weight same h = stayed both w w' weight 0 refl (ap granted_of same) (subst (λ x. Goes both x weight) (sym same) h)
 
     near-asks : (both : Bool) (w : Wire) (weight : ℕ) → Goes both w weight → Stepped both (at_near (requests (Establish service tei))) w weight 0
-    near-asks both w weight h = grind (arith, none-called, not-moved, near-refuses)
+    near-asks both w weight h =
+        none-called both (at_near (requests (Establish service tei))) w weight 0 refl
+        (not-moved both w (doing (at_near (requests (Establish service tei))) w) weight (ap (λ s. record w { near = s }) (near-keeps both w weight h)) h)
+
+    far-moved : (both : Bool) (w : Wire) (weight : ℕ) → Goes both w weight → Keeps service tei w.far → Went both w (doing (at_far (requests (Establish service tei))) w) weight 0
+    far-moved both w weight h same = not-moved both w (doing (at_far (requests (Establish service tei))) w) weight (ap (λ s. record w { far = s }) same) h
 
     far-refused : (both : Bool) (w : Wire) (weight : ℕ) → Goes both w weight → Refuses service tei w.far → Stepped both (at_far (requests (Establish service tei))) w weight 0
-    far-refused both w weight h down = grind (arith, none-called, not-moved)
+    far-refused both w weight h down = none-called both (at_far (requests (Establish service tei))) w weight 0 down.none (far-moved both w weight h down.same)
+
+    -- where both call already
+    called-already : (k : StepAt) (w : Wire) (before b : ℕ) → Went true w (doing k w) before b → Stepped true k w before b
+    called-already k w before b x = record { weight = x.weight; goes = x.goes; price = omega (arith, x.price) }
+
+    far-again : (w : Wire) (weight : ℕ) → Goes true w weight → Keeps service tei w.far → Stepped true (at_far (requests (Establish service tei))) w weight 0
+    far-again w weight h same = called-already (at_far (requests (Establish service tei))) w weight 0 (far-moved true w weight h same)
 
     -- the far end calls back
     abbrev far_calls_back : Wire → Wire
@@ -242,9 +260,9 @@ module _ (service : Service) (tei : ℕ) where
         calls-too w weight 7 h.both.far (ap (λ x. x + 4) (sym h.is))
         (λ far. inl (record { own = under_way; other = waits; order = tt; both = record { near = h.both.near; far = far }; is = refl }))
     far-asks false w weight (inr (inr h)) = far-refused false w weight (inr (inr h)) (half.far-refuses service tei (indicated service tei) c d p q face back rt w weight h)
-    far-asks true w weight (inl h) = far-refused true w weight (inl h) (refuses service tei q d unheard w.far _ h.both.far refl)
+    far-asks true w weight (inl h) = far-again w weight (inl h) (keeps service tei q d unheard w.far _ h.both.far refl (calls-still _ refl refl refl refl refl refl))
     far-asks true w weight (inr (inl h)) = far-refused true w weight (inr (inl h)) (half.far-refuses service tei (confirmed service tei) c d p q face back rt w weight h)
-    far-asks true w weight (inr (inr h)) = far-refused true w weight (inr (inr h)) (half.near-refuses service tei (confirmed service tei) d c q p back face ru (turned w) weight h)
+    far-asks true w weight (inr (inr h)) = far-again w weight (inr (inr h)) (half.near-keeps service tei (confirmed service tei) d c q p back face ru (turned w) weight h)
 
     by-kind : (both : Bool) (k : StepAt) → Kind service tei k → (w : Wire) (weight : ℕ) → Goes both w weight → Stepped both k w weight (if is_turn k w then 1 else 0)
     by-kind both k (talks is) w weight h = none-called both k w weight _ (grind arith) (talk-step both k is w weight h)

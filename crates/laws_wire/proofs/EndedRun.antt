@@ -71,7 +71,7 @@ module _ (service : Service) (tei : ℕ) (few : tei ≤ 126) (c d : Config) (p q
   not-refused =
       let link-here : link_of service tei its_line ≡ n.link = ap (λ o. option_map_or (link_in its_line service) o fresh) own.speaks.placed ∙ own.speaks.link in
       three-pass _ _ _ BadTei NoLink WrongState (le-ltb 126 tei few) (ap not (is_on-at its_line.management.places p tei ((place_of-is its_line.management.places tei p own.speaks.placed).1)))
-      (ap (λ (x : Link). not (serves x.state LinkRelease)) link-here ∙ ap (λ s. not (serves s LinkRelease)) near-state)
+      (ap (λ (x : Link). not (serves w.near.card.config.reading x.state x.owed LinkRelease)) link-here ∙ ap (λ s. not (serves w.near.card.config.reading s n.link.owed LinkRelease)) near-state)
 
   has-room : wants_room (event_at w.near.line (request (Release service tei))) w.near.card ≡ false
   unfolding line_takes_slot

@@ -32,14 +32,14 @@ module _ (t : Terms) where
       go false leads tells = ap (list_any is_error) tells ∙ grind arith
 
   -- nor does a timer tell one, where the link stays up
-  expired-quiet : (here to : State) → IsTrue (is_multiple_frame here) → IsTrue (is_multiple_frame to) → list_any is_error (told_expired here t to) ≡ false
-  expired-quiet TeiAssigned to is up = absurd (true≢false (sym is))
-  expired-quiet here to is up = grind (arith, up)
+  expired-quiet : (here to : State) (owed : Bool) → IsTrue (is_multiple_frame here) → IsTrue (is_multiple_frame to) → list_any is_error (told_expired here owed t to) ≡ false
+  expired-quiet TeiAssigned to owed is up = absurd (true≢false (sym is))
+  expired-quiet here to owed is up = grind (arith, up)
 
   pub timer-quiet : (l : Link) (timer : LinkTimer) → IsTrue (is_multiple_frame l.state) → IsTrue (is_multiple_frame (after t (expired timer) l).state)
       → HasError (course t (expired timer) l).notes → ⊥
   timer-quiet l timer is up error =
-      true≢false (sym error ∙ ap (list_any is_error) ((event-follows t (expired timer) l).leaves.tells) ∙ expired-quiet l.state (after t (expired timer) l).state is up)
+      true≢false (sym error ∙ ap (list_any is_error) ((event-follows t (expired timer) l).leaves.tells) ∙ expired-quiet l.state (after t (expired timer) l).state l.owed is up)
 
 -- Two ends that are up: they stay so, and what an end takes leaves its contents, and is told as it is delivered.
 module _ (n m : LinkEndpoint) (joined : Joined n m) (same : n.terms.n201 ≡ m.terms.n201) (there : Flows n m) (back : Flows m n) where

@@ -1,5 +1,6 @@
 -- A whole call in which frames are lost and timers expire: its moves are at most what there was to do, and what was asked for since.
-use Rattle.laws_wire.proofs.Vocabulary.{◌≡◌, ℕ, ◌+◌, ◌*◌, ◌≤◌, true, cond, List, [], ◌∷◌, ◌++◌, length, sym, ap, subst, ◌∙◌, ◌⊎◌, inl, inr, arith, All, All-head, All-tail, Service, Parts, ControlFrame, Terms, fresh, course, IsInRange, LinkEndpoint, frames_of, Config, LineTold, terms, after, Endpoint, Wire, StepAt, at_near, at_far, turned, doing, doing_all, calling, confirmed, indicated, turned}
+use Rattle.laws_wire.proofs.Vocabulary.{◌≡◌, ℕ, ◌+◌, ◌*◌, ◌≤◌, true, cond, List, [], ◌∷◌, ◌++◌, length, refl, sym, ap, subst, ◌∙◌, ◌⊎◌, inl, inr, arith, All, All-head, All-tail, Service, Parts, ControlFrame, Terms, fresh, course, IsInRange, LinkEndpoint, frames_of, Config, LineTold, terms, after, Endpoint, Wire, StepAt, at_near, at_far, turned, doing, doing_all, calling, confirmed, indicated}
+use Rattle.laws_wire.proofs.Vocabulary.{turned}
 use Rattle.laws_wire.proofs.Vocabulary.{acting}
 use Rattle.laws_wire.proofs.Vocabulary.{granted_of, HasNoError, IsRoughTalk, is_move, moves, expiries_in, expiries, MovesComeToAnEnd}
 use Rattle.model_link.specs.Events as link
@@ -64,8 +65,42 @@ module _ (service : Service) (tei : ℕ) (c d : Config) (p q : ℕ) (face : Face
   Seen w = EndsSeen service tei c d p q face back rt ru v wide_c wide_d w
 
   seen : (w : Wire) → Goes service tei c d p q w → Seen w
-  seen w (inr (inl h)) = grind (arith, ringing)
-  seen w o = grind (arith, end, ringing)
+  seen w (inl h) = record {
+    n = end t (ringing h.repeats h.waiting) h.way;
+    m = end u fresh [];
+    past_n = [];
+    past_m = [];
+    near = h.near;
+    far = h.far;
+    there = omega arith;
+    here = omega arith;
+    near_up = inr refl;
+    far_up = inr refl;
+  }
+  seen w (inr (inl h)) = record {
+    n = end t (ringing h.repeats h.waiting) h.way;
+    m = h.m;
+    past_n = [];
+    past_m = indicated service tei ∷ [];
+    near = h.near;
+    far = h.far.held;
+    there = h.far.joint.back.accepted;
+    here = omega arith;
+    near_up = inr refl;
+    far_up = inl h.far.up;
+  }
+  seen w (inr (inr h)) = record {
+    n = h.n;
+    m = h.m;
+    past_n = confirmed service tei ∷ [];
+    past_m = indicated service tei ∷ [];
+    near = h.near.held;
+    far = h.far.held;
+    there = h.far.joint.back.accepted;
+    here = h.near.joint.back.accepted;
+    near_up = inl h.near.up;
+    far_up = inl h.far.up;
+  }
 
   -- ---- what the near end takes
 

@@ -21,10 +21,10 @@ use Rattle.model_teis.specs.network.Events as teis
 use Rattle.model_teis.specs.declared.network.messages.Message.TheVariants as sent
 use Rattle.model_teis.specs.declared.changes.Change.TheVariants.{Gained}
 use Rattle.model_teis.specs.network.Machine.{Management}
-use Rattle.model_teis.specs.Information.{information}
+use Rattle.model_teis.specs.Information.{heard_by, information, looked_at}
 use Rattle.model_teis.specs.network.Messages as messages
 use Rattle.model_teis.specs.network.Rows as tei_rows
-use Rattle.model_teis.specs.Table.{automatic, is_off, free_tei}
+use Rattle.model_teis.specs.Table.{automatic, is_off, is_on, free_tei}
 use Rattle.model_teis.specs.network.Words as tei_words
 use Rattle.model_teis.specs.terminal.Events as terminals
 unfoldable use Rattle.model_teis.specs.terminal.Events.{course as terminal_course}
@@ -77,6 +77,12 @@ carried sender n201 ri type action long =
 -- the Ri goes in two octets, and is read from them again
 same-ri : (ri : ℕ) → 256 * (ri / 256) + ri % 256 ≡ ri
 same-ri ri = omega arith
+
+-- ---- both readings look at all five octets
+
+looks : (r : Reading) (ri type action : ℕ) → looked_at r (information ri type action) ≡ information ri type action
+looks Profile ri type action = refl
+looks AnnexB ri type action = refl
 
 -- ---- the lines
 
@@ -195,29 +201,41 @@ module _ (reading : Reading) (ri n : ℕ) (some : 1 ≤ n) where
 
   served : tei_course (teis.message (information ri 1 127)) (empty reading n) ≡ served_course
   unfolding tei_course tei_refusal
-  served = anew reading refl (256 * (ri / 256) + ri % 256) ∙ serves (256 * (ri / 256) + ri % 256) (same-ri ri)
+  served =
+      ap (λ octets. tei_rows.serve (heard_by messages.heard_of_type octets) (messages.responses_in (information ri 1 127)) its_start) (looks reading ri 1 127)
+      ∙ anew reading refl (256 * (ri / 256) + ri % 256) ∙ serves (256 * (ri / 256) + ri % 256) (same-ri ri)
 
   -- ---- the terminal takes the TEI
 
   module _ (number : ℕ) where
     abbrev asking : terminals_machine.Terminal
-    asking = record { places = frees n; number = number; procedure = Some (Asking ri 1); waiting = [] }
+    asking = record { reading = reading; places = frees n; number = number; procedure = Some (Asking ri 1); waiting = [] }
 
     abbrev taken_course : terminal_words.Course
     taken_course = record {
-      now = record { places = first n; number = number; procedure = None; waiting = [] };
+      now = record { reading = reading; places = first n; number = number; procedure = None; waiting = [] };
       told = record { notes = notes.Assigned 64 ∷ []; change = Some (Gained 64 0); orders = orders.Stop T202 ∷ []; lost = 0; unserved = false };
     }
+
+    -- TEI 64 is one that it takes by either
+    may-take : (r : Reading)
+        → cond (terminal_rows.is_assignable r 64 (frees n)) (terminal_rows.take_at 64 (free_place (frees n))) terminal_words.unserved (terminal_words.begun asking)
+        ≡ cond (not (is_on 64 (frees n))) (terminal_rows.take_at 64 (free_place (frees n))) terminal_words.unserved (terminal_words.begun asking)
+    may-take Profile = refl
+    may-take AnnexB = refl
 
     takes : (x : ℕ) → x ≡ ri → cond (ri == x) (terminal_rows.take_tei 64) terminal_words.unserved (terminal_words.begun asking) ≡ taken_course
     takes x is =
         ap (λ b. cond b (terminal_rows.take_tei 64) terminal_words.unserved (terminal_words.begun asking)) (eq-eqb ri x (sym is))
+        ∙ may-take reading
         ∙ ap (λ b. cond (not b) (terminal_rows.take_at 64 (free_place (frees n))) terminal_words.unserved (terminal_words.begun asking)) (none-on 64 n)
         ∙ ap (λ o. terminal_rows.take_at 64 o (terminal_words.begun asking)) (free-is n some)
 
     took : terminal_course (terminals.message (information ri 2 64)) asking ≡ taken_course
     unfolding terminal_course
-    took = takes (256 * (ri / 256) + ri % 256) (same-ri ri)
+    took =
+        ap (λ octets. terminal_rows.serve (heard_by own_messages.heard_of_type octets) (terminal_words.begun asking)) (looks reading ri 2 64)
+        ∙ takes (256 * (ri / 256) + ri % 256) (same-ri ri)
 
 -- ---- a message comes to a line
 

@@ -1,12 +1,12 @@
 -- Cards that are the same have the same image.
-use Rattle.std.proofs.Common.{◌≡◌, ℕ, ◌<◌, Bool, true, false, List, [], ◌∷◌, ◌++◌, length, get_or, Option, Some, None, is_some, refl, sym, ap, ◌∙◌, subst}
+use Rattle.std.proofs.Common.{◌≡◌, ℕ, ◌+◌, ◌*◌, ◌<◌, Bool, true, false, List, [], ◌∷◌, ◌++◌, length, get_or, Option, Some, None, is_some, refl, sym, ap, ◌∙◌, subst}
 use Rattle.std.specs.List.{AllZip, range_with_len}
 use Rattle.std.specs.Option.{unwrap_or}
 use Rattle.std.specs.Prelude.{flat_map, map}
 use Rattle.std.proofs.lemmas.List.Elements.{AllZip-get_or}
 use Rattle.lapd_clock.specs.Timer.{Timer}
 use Rattle.model_teis.specs.network.Machine.{Management}
-use Rattle.model_bits.specs.Bits.{number_of}
+use Rattle.model_bits.specs.Bits.{bit_value, number_of}
 use Rattle.model_link.specs.Link.{Link, state_number}
 use Rattle.model_link.specs.Told.{runs}
 use Rattle.model_link.specs.declared.timers.LinkTimer.TheVariants.{T200, T203}
@@ -34,7 +34,7 @@ use Rattle.model_line.proofs.Numbers.{below}
 -- links
 link-again : (l m : Link) → IsSameLink l m → link l ≡ link m
 link-again l m same = λ i.
-    state_number (same.state i)
+    (state_number (same.state i) + 64 * bit_value (same.owed i))
     ∷ number_of (same.peer_busy i ∷ same.own_busy i ∷ same.rejecting i ∷ same.pending i ∷ same.asked i ∷ runs T200 (same.running i) ∷ runs T203 (same.running i) ∷ [])
     ∷ same.repeats i ∷ same.va i ∷ same.sent i ∷ same.vr i ∷ same.again i
     ∷ (counts (same.counts i) ++ (list_of contents (same.queue i) ++ list_of control_frame (same.waiting i)))

@@ -41,7 +41,7 @@ use Rattle.model_line.specs.Stored.{slots_by_link, slots_of}
 use Rattle.model_line.proofs.Ranges.{Ranges, ranges_of}
 use Rattle.lapd_image.specs.Numbers.{number, list_of, contents}
 use Rattle.model_line.specs.ConfigImage.{config_flags, seed, config}
-use Rattle.model_link.specs.Image.{control_frame, link_flags, counted_of, counts, link, IsSavedLink}
+use Rattle.model_link.specs.Image.{control_frame, state_octet, link_flags, counted_of, counts, link, IsSavedLink}
 use Rattle.model_teis.specs.TableImage.{place}
 use Rattle.model_teis.specs.network.Image.{remembered, period_number, check, management}
 use Rattle.model_teis.specs.terminal.Image.{procedure}
@@ -88,12 +88,19 @@ frame-fits f any = fits-cons (bit_value f.command) 2 _ (small f.command) (field-
     small false = lit< tt
 
 -- a link
-state-small : (s : State) → state_number s < 256
-state-small TeiAssigned = lit< tt
-state-small AwaitingEstablishment = lit< tt
-state-small AwaitingRelease = lit< tt
-state-small Established = lit< tt
-state-small TimerRecovery = lit< tt
+state-low : (s : State) → state_number s < 9
+state-low TeiAssigned = lit< tt
+state-low AwaitingEstablishment = lit< tt
+state-low AwaitingRelease = lit< tt
+state-low Established = lit< tt
+state-low TimerRecovery = lit< tt
+
+bit-low : (b : Bool) → bit_value b < 2
+bit-low true = lit< tt
+bit-low false = lit< tt
+
+octet-small : (l : Link) → state_octet l < 256
+octet-small l = omega (arith, state-low l.state, bit-low l.owed)
 
 -- sizes of contents and their octets, together
 both : (most : ℕ) (xs : List (List ℕ)) → All AreOctets xs → All (λ (c : List ℕ). length c ≤ most) xs → All (HasContents most) xs
@@ -117,7 +124,7 @@ module _ (c : Config) (range : IsInRange c) where
       let frames : Fits (1 + length l.waiting * 3) (list_of control_frame l.waiting) =
       fits-list (λ (f : ControlFrame). Unit {0}) control_frame 3 frame-fits l.waiting (omega (arith, ring, r.control.most)) (λ k d h. tt) in
       let counted : Fits 10 (counts l.counts) = fits-all (λ (n : ℕ). n ≤ 65535) (number 2) 2 (λ n h. fits-number 2 n) (counted_of l.counts) saved.counts in
-      let all = fits-cons (state_number l.state) _ _ (state-small l.state)
+      let all = fits-cons (state_octet l) _ _ (octet-small l)
       (fits-cons (number_of (link_flags l)) _ _ (bits-small (link_flags l) (omega arith))
       (fits-cons l.repeats _ _ (omega (arith, sound.repeats, r.n200.most))
       (fits-cons (l.a % 128) _ _ (omega arith)

@@ -19,8 +19,8 @@ use Rattle.model_link.specs.declared.timers.LinkTimer.{LinkTimer}
 use Rattle.model_link.specs.declared.terms.Terms.{Terms}
 use Rattle.model_link.specs.Link.{Link, queue_of}
 use Rattle.model_link.specs.Steps.{Course, Step, ◌then◌, nothing, depending_on, by_bit}
-use Rattle.model_link.specs.Words.{note, deliver, deliver_unit, leave_unserved, read_as, peer_busy_is, own_busy_is, rejecting_is, pending_is, asked_is, repeats_are, repeated, enter, clear_flags, start, no_timer}
-use Rattle.model_link.specs.Words.{zero_numbers, count, discard, acknowledge, send_again_from, count_received, begin_anew, send, command, response, rr_or_rnr, enquire, answer, report_receiver_status, reject}
+use Rattle.model_link.specs.Words.{note, deliver, deliver_unit, leave_unserved, read_as, peer_busy_is, own_busy_is, rejecting_is, pending_is, asked_is, owed_is, repeats_are, repeated, enter, clear_flags, start, no_timer}
+use Rattle.model_link.specs.Words.{reset_numbers, zero_numbers, count, discard, acknowledge, send_again_from, count_received, begin_anew, send, command, response, rr_or_rnr, enquire, answer, report_receiver_status, reject}
 use Rattle.model_link.specs.MultipleFrame.{data_in_7_8}
 
 -- All but numbers and contents, with how many go again and what was counted; numbers and contents; what is answered so far.
@@ -28,7 +28,7 @@ abbrev pub SameFlags : Link → Link → Type 0
 SameFlags l m =
     (l.state ≡ m.state) × (l.peer_busy ≡ m.peer_busy) × (l.own_busy ≡ m.own_busy) × (l.rejecting ≡ m.rejecting) × (l.pending ≡ m.pending)
     × (l.asked ≡ m.asked) × (l.repeats ≡ m.repeats) × (l.running ≡ m.running) × (l.waiting ≡ m.waiting) × (l.again ≡ m.again)
-    × (l.counts ≡ m.counts)
+    × (l.counts ≡ m.counts) × (l.owed ≡ m.owed)
 
 pub record SameNumbers (a s r : ℕ) (c : List (List ℕ)) (a' s' r' : ℕ) (c' : List (List ℕ)) : Type 0 where
   pub va : a % 128 ≡ a' % 128
@@ -140,47 +140,50 @@ unserved2 = record { leads = λ c d h. record { flags = h.flags; numbers = h.num
 
 -- Flags, RC, the state and timers.
 pub peer_busy2 : (b : Bool) → Leads2 Alike (peer_busy_is b) (peer_busy_is b) Alike
-peer_busy2 b = record { leads = λ c d h. let f = h.flags in record { flags = (f.0, refl, f.2, f.3, f.4, f.5, f.6, f.7, f.8, f.9, f.10); numbers = h.numbers; said = h.said } }
+peer_busy2 b = record { leads = λ c d h. let f = h.flags in record { flags = (f.0, refl, f.2, f.3, f.4, f.5, f.6, f.7, f.8, f.9, f.10, f.11); numbers = h.numbers; said = h.said } }
 
 pub own_busy2 : (b : Bool) → Leads2 Alike (own_busy_is b) (own_busy_is b) Alike
-own_busy2 b = record { leads = λ c d h. let f = h.flags in record { flags = (f.0, f.1, refl, f.3, f.4, f.5, f.6, f.7, f.8, f.9, f.10); numbers = h.numbers; said = h.said } }
+own_busy2 b = record { leads = λ c d h. let f = h.flags in record { flags = (f.0, f.1, refl, f.3, f.4, f.5, f.6, f.7, f.8, f.9, f.10, f.11); numbers = h.numbers; said = h.said } }
 
 pub rejecting2 : (b : Bool) → Leads2 Alike (rejecting_is b) (rejecting_is b) Alike
-rejecting2 b = record { leads = λ c d h. let f = h.flags in record { flags = (f.0, f.1, f.2, refl, f.4, f.5, f.6, f.7, f.8, f.9, f.10); numbers = h.numbers; said = h.said } }
+rejecting2 b = record { leads = λ c d h. let f = h.flags in record { flags = (f.0, f.1, f.2, refl, f.4, f.5, f.6, f.7, f.8, f.9, f.10, f.11); numbers = h.numbers; said = h.said } }
 
 pub pending2 : (b : Bool) → Leads2 Alike (pending_is b) (pending_is b) Alike
-pending2 b = record { leads = λ c d h. let f = h.flags in record { flags = (f.0, f.1, f.2, f.3, refl, f.5, f.6, f.7, f.8, f.9, f.10); numbers = h.numbers; said = h.said } }
+pending2 b = record { leads = λ c d h. let f = h.flags in record { flags = (f.0, f.1, f.2, f.3, refl, f.5, f.6, f.7, f.8, f.9, f.10, f.11); numbers = h.numbers; said = h.said } }
 
 pub asked2 : (b : Bool) → Leads2 Alike (asked_is b) (asked_is b) Alike
-asked2 b = record { leads = λ c d h. let f = h.flags in record { flags = (f.0, f.1, f.2, f.3, f.4, refl, f.6, f.7, f.8, f.9, f.10); numbers = h.numbers; said = h.said } }
+asked2 b = record { leads = λ c d h. let f = h.flags in record { flags = (f.0, f.1, f.2, f.3, f.4, refl, f.6, f.7, f.8, f.9, f.10, f.11); numbers = h.numbers; said = h.said } }
+
+pub owed2 : (b : Bool) → Leads2 Alike (owed_is b) (owed_is b) Alike
+owed2 b = record { leads = λ c d h. let f = h.flags in record { flags = (f.0, f.1, f.2, f.3, f.4, f.5, f.6, f.7, f.8, f.9, f.10, refl); numbers = h.numbers; said = h.said } }
 
 pub repeats2 : (n : ℕ) → Leads2 Alike (repeats_are n) (repeats_are n) Alike
-repeats2 n = record { leads = λ c d h. let f = h.flags in record { flags = (f.0, f.1, f.2, f.3, f.4, f.5, refl, f.7, f.8, f.9, f.10); numbers = h.numbers; said = h.said } }
+repeats2 n = record { leads = λ c d h. let f = h.flags in record { flags = (f.0, f.1, f.2, f.3, f.4, f.5, refl, f.7, f.8, f.9, f.10, f.11); numbers = h.numbers; said = h.said } }
 
 pub repeated2 : Leads2 Alike repeated repeated Alike
-repeated2 = record { leads = λ c d h. let f = h.flags in record { flags = (f.0, f.1, f.2, f.3, f.4, f.5, ap (λ (n : ℕ). n + 1) f.6, f.7, f.8, f.9, f.10); numbers = h.numbers; said = h.said } }
+repeated2 = record { leads = λ c d h. let f = h.flags in record { flags = (f.0, f.1, f.2, f.3, f.4, f.5, ap (λ (n : ℕ). n + 1) f.6, f.7, f.8, f.9, f.10, f.11); numbers = h.numbers; said = h.said } }
 
 pub enter2 : (s : State) → Leads2 Alike (enter s) (enter s) Alike
-enter2 s = record { leads = λ c d h. let f = h.flags in record { flags = (refl, f.1, f.2, f.3, f.4, f.5, f.6, f.7, f.8, f.9, f.10); numbers = h.numbers; said = h.said } }
+enter2 s = record { leads = λ c d h. let f = h.flags in record { flags = (refl, f.1, f.2, f.3, f.4, f.5, f.6, f.7, f.8, f.9, f.10, f.11); numbers = h.numbers; said = h.said } }
 
 pub clear2 : Leads2 Alike clear_flags clear_flags Alike
-clear2 = record { leads = λ c d h. let f = h.flags in record { flags = (f.0, refl, refl, refl, refl, f.5, f.6, f.7, f.8, f.9, f.10); numbers = h.numbers; said = h.said } }
+clear2 = record { leads = λ c d h. let f = h.flags in record { flags = (f.0, refl, refl, refl, refl, f.5, f.6, f.7, f.8, f.9, f.10, f.11); numbers = h.numbers; said = h.said } }
 
 pub start2 : (timer : LinkTimer) → Leads2 Alike (start timer) (start timer) Alike
 start2 timer = record {
   leads = λ c d h. let f = h.flags in let w = h.said in
-      record { flags = (f.0, f.1, f.2, f.3, f.4, f.5, f.6, refl, f.8, f.9, f.10); numbers = h.numbers; said = (w.0, w.1, w.2, w.3, refl, w.5, w.6, w.7, w.8) };
+      record { flags = (f.0, f.1, f.2, f.3, f.4, f.5, f.6, refl, f.8, f.9, f.10, f.11); numbers = h.numbers; said = (w.0, w.1, w.2, w.3, refl, w.5, w.6, w.7, w.8) };
 }
 
 pub no_timer2 : Leads2 Alike no_timer no_timer Alike
 no_timer2 = record {
   leads = λ c d h. let f = h.flags in let w = h.said in
-      record { flags = (f.0, f.1, f.2, f.3, f.4, f.5, f.6, refl, f.8, f.9, f.10); numbers = h.numbers; said = (w.0, w.1, w.2, w.3, refl, w.5, w.6, w.7, w.8) };
+      record { flags = (f.0, f.1, f.2, f.3, f.4, f.5, f.6, refl, f.8, f.9, f.10, f.11); numbers = h.numbers; said = (w.0, w.1, w.2, w.3, refl, w.5, w.6, w.7, w.8) };
 }
 
 -- What is counted.
 pub count2 : (change : LinkCounts → LinkCounts) → Leads2 Alike (count change) (count change) Alike
-count2 change = record { leads = λ c d h. let f = h.flags in record { flags = (f.0, f.1, f.2, f.3, f.4, f.5, f.6, f.7, f.8, f.9, ap change f.10); numbers = h.numbers; said = h.said } }
+count2 change = record { leads = λ c d h. let f = h.flags in record { flags = (f.0, f.1, f.2, f.3, f.4, f.5, f.6, f.7, f.8, f.9, ap change f.10, f.11); numbers = h.numbers; said = h.said } }
 
 -- Numbers and contents.
 queue-on : (c d : List (List ℕ)) (a b n m : ℕ) → a ≤ n → b ≤ m → n + b ≡ m + a → drop a c ≡ drop b d → drop n c ≡ drop m d
@@ -193,10 +196,10 @@ queue-on c d a b n m from from' by same =
 nothing-kept : (c : List (List ℕ)) (a : ℕ) → a ≤ length c → drop a (take a c) ≡ []
 nothing-kept c a few = drop_all a (take a c) (omega (arith, length-take-le a c few))
 
-pub zero2 : Leads2 Alike zero_numbers zero_numbers Alike
-zero2 = record {
+pub reset2 : Leads2 Alike reset_numbers reset_numbers Alike
+reset2 = record {
   leads = λ c d h. let f = h.flags in let w = h.said in let n = h.numbers in record {
-    flags = (f.0, f.1, f.2, f.3, f.4, f.5, f.6, f.7, f.8, refl, ap with_establishment f.10);
+    flags = (f.0, f.1, f.2, f.3, f.4, f.5, f.6, f.7, f.8, refl, f.10, f.11);
     numbers = record {
       va = refl;
       out = refl;
@@ -211,6 +214,9 @@ zero2 = record {
   };
 }
 
+pub zero2 : Leads2 Alike zero_numbers zero_numbers Alike
+zero2 = record { leads = λ c d h. (count2 with_establishment).leads _ _ (reset2.leads c d h) }
+
 -- as many contents are given up
 given-up : (c d : Course) → Alike c d → c.given_up + length (queue_of c.link) ≡ d.given_up + length (queue_of d.link)
 given-up c d h = λ i. h.said.8 i + length (h.numbers.queue i)
@@ -221,7 +227,7 @@ discard2 = record {
       let few : c.link.a ≤ length c.link.contents = omega (arith, n.sent, n.there) in
       let few' : d.link.a ≤ length d.link.contents = omega (arith, n.sent', n.there') in
       record {
-        flags = (f.0, f.1, f.2, f.3, f.4, f.5, f.6, f.7, f.8, refl, f.10);
+        flags = (f.0, f.1, f.2, f.3, f.4, f.5, f.6, f.7, f.8, refl, f.10, f.11);
         numbers = record {
           va = n.va;
           out = omega arith;
@@ -267,7 +273,7 @@ send_again2 n m = record {
       let back : c.link.s - n ≡ d.link.s - m = omega (arith, h.by, h.to, h.to', k.out) in
       record {
         alike = record {
-          flags = (f.0, f.1, f.2, f.3, f.4, f.5, f.6, f.7, f.8, λ i. min (f.9 i + back i) 255, f.10);
+          flags = (f.0, f.1, f.2, f.3, f.4, f.5, f.6, f.7, f.8, λ i. min (f.9 i + back i) 255, f.10, f.11);
           numbers = record {
             va = k.va;
             out = h.by;
@@ -303,7 +309,7 @@ received2 = record {
 pub anew2 : Leads2 Alike begin_anew begin_anew Alike
 anew2 = record {
   leads = λ c d h. let w = h.said in record {
-    flags = (refl, refl, refl, refl, refl, refl, refl, refl, refl, refl, refl);
+    flags = (refl, refl, refl, refl, refl, refl, refl, refl, refl, refl, refl, refl);
     numbers = record { va = refl; out = refl; vr = refl; queue = refl; sent = omega arith; there = omega arith; sent' = omega arith; there' = omega arith };
     said = (w.0, w.1, w.2, w.3, refl, w.5, w.6, refl, given-up c d h);
   };
@@ -333,7 +339,7 @@ data2 octets = record {
 -- Frames that wait.
 send-same : (t : Terms) (f g : ControlFrame) (c d : Course) → f ≡ g → Alike c d → Alike (send t f c) (send t g d)
 send-same t f g c d e h = let k = h.flags in let w = h.said in record {
-  flags = (k.0, k.1, k.2, k.3, k.4, k.5, k.6, k.7, λ i. cond (nat_lt (length (k.8 i)) t.control) (k.8 i ++ e i ∷ []) (k.8 i), k.9, k.10);
+  flags = (k.0, k.1, k.2, k.3, k.4, k.5, k.6, k.7, λ i. cond (nat_lt (length (k.8 i)) t.control) (k.8 i ++ e i ∷ []) (k.8 i), k.9, k.10, k.11);
   numbers = h.numbers;
   said = (w.0, w.1, w.2, w.3, w.4, λ i. cond {A = ℕ} (nat_lt (length (k.8 i)) t.control) (w.5 i) (w.5 i + 1), w.6, w.7, w.8);
 }

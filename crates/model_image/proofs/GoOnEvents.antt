@@ -19,9 +19,8 @@ use Rattle.model_link.specs.Events.{Received, frame, undefined, wrong_size, over
 use Rattle.model_link.specs.Link.{Link}
 use Rattle.model_link.specs.Machine.{frame_in, malformed_in, expired_in, told_of_clearing, received_step, is_running, expired_step, cleared_step, step, course, given_of, told, given, after}
 use Rattle.model_link.specs.Offers.{give, give_waiting, with_one_sent, may_send_information, is_established, next_information, first_unsent, send_information, is_awaiting_acknowledgement, is_pending, send_acknowledgement, offer_among, offer_step}
-use Rattle.model_link.specs.TeiAssigned.{establish_in_4}
 use Rattle.model_link.specs.MultipleFrame.{set_busy_in_7_8, clear_busy_in_7_8}
-use Rattle.model_link.specs.Requests.{serves, refusal, release_in, granted, request_step}
+use Rattle.model_link.specs.Requests.{serves, refusal, establish_in, release_in, granted, request_step}
 use Rattle.model_link.specs.Steps.{Sent, Course, Step, begun, ◌then◌, nothing, depending_on, changed}
 use Rattle.model_link.specs.Told.{of_call, of_packet, runs, orders_for}
 use Rattle.model_link.specs.Words.{count, command, response}
@@ -53,13 +52,17 @@ cleared-same t = record { leads = λ c d h. anew2.leads _ _ (by-state (λ s. tol
 -- requests
 release2 : (t : Terms) (here : State) → Leads2 Alike (release_in here t) (release_in here t) Alike
 release2 t TeiAssigned = search rows2 depth 14 fits 6000
-release2 t AwaitingEstablishment = nothing2
+release2 t AwaitingEstablishment = search rows2 depth 14 fits 6000
 release2 t AwaitingRelease = nothing2
 release2 t Established = search rows2 depth 14 fits 6000
 release2 t TimerRecovery = search rows2 depth 14 fits 6000
 
-establish2 : (t : Terms) → Leads2 Alike (establish_in_4 t) (establish_in_4 t) Alike
-establish2 t = search rows2 depth 14 fits 6000
+establish2 : (t : Terms) (here : State) → Leads2 Alike (establish_in here t) (establish_in here t) Alike
+establish2 t TeiAssigned = search rows2 depth 14 fits 6000
+establish2 t AwaitingEstablishment = search rows2 depth 14 fits 6000
+establish2 t AwaitingRelease = nothing2
+establish2 t Established = nothing2
+establish2 t TimerRecovery = nothing2
 
 set_busy2 : (t : Terms) → Leads2 Alike (set_busy_in_7_8 t) (set_busy_in_7_8 t) Alike
 set_busy2 t = search rows2 depth 14 fits 6000
@@ -68,19 +71,19 @@ clear_busy2 : (t : Terms) → Leads2 Alike (clear_busy_in_7_8 t) (clear_busy_in_
 clear_busy2 t = search rows2 depth 14 fits 6000
 
 granted-same : (t : Terms) (r : Request) → Leads2 Alike (granted t r) (granted t r) Alike
-granted-same t Establish = record { leads = (establish2 t).leads }
+granted-same t Establish = record { leads = by-state (λ s. establish_in s t) (establish2 t) }
 granted-same t Release = record { leads = by-state (λ s. release_in s t) (release2 t) }
 granted-same t (Data octets) = record { leads = (data2 octets).leads }
 granted-same t SetBusy = record { leads = (set_busy2 t).leads }
 granted-same t ClearBusy = record { leads = (clear_busy2 t).leads }
 
 refusal-same : (t : Terms) (pool : Bool) (r : Request) (c d : Course) → Alike c d → refusal t c.link pool r ≡ refusal t d.link pool r
-refusal-same t pool Establish c d h = ap (λ (s : State). if serves s Establish then None else Some WrongState) h.flags.0
-refusal-same t pool Release c d h = ap (λ (s : State). if serves s Release then None else Some WrongState) h.flags.0
-refusal-same t pool SetBusy c d h = ap (λ (s : State). if serves s SetBusy then None else Some WrongState) h.flags.0
-refusal-same t pool ClearBusy c d h = ap (λ (s : State). if serves s ClearBusy then None else Some WrongState) h.flags.0
+refusal-same t pool Establish c d h = λ i. if serves t.reading (h.flags.0 i) (h.flags.11 i) Establish then None else Some WrongState
+refusal-same t pool Release c d h = λ i. if serves t.reading (h.flags.0 i) (h.flags.11 i) Release then None else Some WrongState
+refusal-same t pool SetBusy c d h = λ i. if serves t.reading (h.flags.0 i) (h.flags.11 i) SetBusy then None else Some WrongState
+refusal-same t pool ClearBusy c d h = λ i. if serves t.reading (h.flags.0 i) (h.flags.11 i) ClearBusy then None else Some WrongState
 refusal-same t pool (Data octets) c d h = λ i.
-    if serves (h.flags.0 i) (Data octets)
+    if serves t.reading (h.flags.0 i) (h.flags.11 i) (Data octets)
     then (if nat_lt t.n201 (length octets) then Some TooLong else if nat_le t.queue (length (h.numbers.queue i)) then Some QueueFull else if pool then Some PoolFull else None)
     else Some WrongState
 
@@ -105,7 +108,7 @@ give-same f g o p c d e q h = let w = h.said in record {
 waiting-same : (f : ControlFrame) (fs : List ControlFrame) → Leads2 Alike (give_waiting f fs) (give_waiting f fs) Alike
 waiting-same f fs = record {
   leads = λ c d h. let k = h.flags in let w = h.said in record {
-    flags = (k.0, k.1, k.2, k.3, k.4, k.5, k.6, k.7, refl, k.9, ap (with_control_sent f.control) k.10);
+    flags = (k.0, k.1, k.2, k.3, k.4, k.5, k.6, k.7, refl, k.9, ap (with_control_sent f.control) k.10, k.11);
     numbers = h.numbers;
     said = (w.0, w.1, w.2, refl, w.4, w.5, w.6, w.7, w.8);
   };
@@ -141,7 +144,7 @@ may-tells t = record {
 one-more : (c d : Course) → Alike c d → c.link.s < length c.link.contents → d.link.s < length d.link.contents
     → Alike (changed with_one_sent c) (changed with_one_sent d)
 one-more c d h less less' = let f = h.flags in let k = h.numbers in record {
-  flags = (f.0, f.1, f.2, f.3, f.4, f.5, f.6, f.7, f.8, ap (λ (n : ℕ). n - 1) f.9, λ i. with_information_sent (f.9 i) (f.10 i));
+  flags = (f.0, f.1, f.2, f.3, f.4, f.5, f.6, f.7, f.8, ap (λ (n : ℕ). n - 1) f.9, λ i. with_information_sent (f.9 i) (f.10 i), f.11);
   numbers = record {
     va = k.va;
     out = omega (arith, k.out);
@@ -219,7 +222,7 @@ pub record IsAlike (l m : Link) : Type 0 where
 
 begun-same : (l m : Link) → IsAlike l m → Alike (begun l) (begun m)
 begun-same l m alike = let same = alike.same in record {
-  flags = (same.state, same.peer_busy, same.own_busy, same.rejecting, same.pending, same.asked, same.repeats, same.running, same.waiting, same.again, same.counts);
+  flags = (same.state, same.peer_busy, same.own_busy, same.rejecting, same.pending, same.asked, same.repeats, same.running, same.waiting, same.again, same.counts, same.owed);
   numbers = record {
     va = same.va;
     out = omega (arith, same.sent, alike.sent, alike.sent');
@@ -251,6 +254,7 @@ alike-again c d h = let f = h.flags in let k = h.numbers in record {
     running = f.7;
     waiting = f.8;
     counts = f.10;
+    owed = f.11;
   };
   sent = k.sent;
   there = k.there;

@@ -150,8 +150,8 @@ module _ (c : Config) where
   of-tei service tei l ys alike = at-place service l ys alike (place_in l tei)
 
   by-state : (service : Service) (tei : ℕ) (r : link_event.Request) (l : Line) (ys : List Link) → AreAlike l.links ys
-      → wrong_state service tei r l ≡ wrong_state service tei r (with_links ys l)
-  by-state service tei r l ys alike = ap (λ (s : State). record { why = WrongState; holds = not (serves s r) }) (of-tei service tei l ys alike).same.state
+      → wrong_state c service tei r l ≡ wrong_state c service tei r (with_links ys l)
+  by-state service tei r l ys alike = let same = (of-tei service tei l ys alike).same in λ i. record { why = WrongState; holds = not (serves c.reading (same.state i) (same.owed i) r) }
 
   by-queue : (service : Service) (tei : ℕ) (l : Line) (ys : List Link) → AreAlike l.links ys → queue_full c service tei l ≡ queue_full c service tei (with_links ys l)
   by-queue service tei l ys alike = ap (λ (q : List (List ℕ)). record { why = QueueFull; holds = nat_le c.queue (length q) }) (of-tei service tei l ys alike).same.queue

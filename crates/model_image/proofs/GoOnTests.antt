@@ -11,13 +11,13 @@ use Rattle.lapd_frame.specs.declared.notes.Note.TheVariants as notes
 use Rattle.lapd_frame.specs.declared.notes.ErrorCode.TheVariants as code
 use Rattle.model_link.specs.declared.states.State.{State}
 use Rattle.model_link.specs.declared.terms.Terms.{Terms}
-use Rattle.model_link.specs.Link.{Link, has_outstanding, is_asked, is_peer_busy, is_own_busy, is_rejecting, may_repeat, most_repeats, state_number}
+use Rattle.model_link.specs.Link.{Link, has_outstanding, is_asked, is_owed, is_peer_busy, is_own_busy, is_rejecting, may_repeat, most_repeats, state_number}
 use Rattle.model_link.specs.Steps.{Course, Step, ◌then◌}
 use Rattle.model_link.specs.Words.{error, re_establish, by_number}
 use Rattle.model_link.specs.MultipleFrame.{is_next}
 use Rattle.model_link.specs.Established.{is_all_sent, is_beyond_acknowledged}
-use Rattle.model_image.proofs.GoOn.{Alike, Named, Leads2, Tells, keep2, nothing2, depending2, bit2, read2, note2, deliver2, deliver_unit2, unserved2, peer_busy2, own_busy2, rejecting2, pending2, asked2}
-use Rattle.model_image.proofs.GoOn.{count2, repeats2, repeated2, enter2, clear2, start2, no_timer2, zero2, discard2, received2, anew2, data2, send2, seq-same, enquire2, answer2, report2, reject2}
+use Rattle.model_image.proofs.GoOn.{Alike, Named, Leads2, Tells, keep2, nothing2, depending2, bit2, read2, note2, deliver2, deliver_unit2, unserved2, peer_busy2, own_busy2, rejecting2, pending2, asked2, owed2}
+use Rattle.model_image.proofs.GoOn.{count2, repeats2, repeated2, enter2, clear2, start2, no_timer2, reset2, zero2, discard2, received2, anew2, data2, send2, seq-same, enquire2, answer2, report2, reject2}
 
 -- An N(R) names a number of each, or of neither.
 abbrev AreNamed : ℕ → ℕ → ℕ → ℕ → Option ℕ → Option ℕ → Type 0
@@ -75,6 +75,9 @@ lt-same x y x' y' e = go (nat_lt x y) (nat_lt x' y') refl refl
 pub asked_tells : Tells Alike is_asked is_asked
 asked_tells = record { tells = λ c d h. h.flags.5 }
 
+pub owed_tells : Tells Alike is_owed is_owed
+owed_tells = record { tells = λ c d h. h.flags.11 }
+
 pub peer_tells : Tells Alike is_peer_busy is_peer_busy
 peer_tells = record { tells = λ c d h. h.flags.1 }
 
@@ -104,8 +107,8 @@ beyond_tells n m = record { tells = λ c d h. lt-same c.link.a n d.link.a m (ome
 pub named_tells : {n m : ℕ} {test test' : Link → Bool} → Tells Alike test test' → Tells (Named n m) test test'
 named_tells x = record { tells = λ c d h. x.tells c d h.alike }
 
-pub ruleset words2 = (count2, keep2, nothing2, depending2, bit2, read2, note2, deliver2, deliver_unit2, unserved2, peer_busy2, own_busy2, rejecting2, pending2, asked2, repeats2, repeated2, enter2, clear2, start2, no_timer2, zero2, discard2, received2, anew2, data2, send2, enquire2, answer2, report2, reject2)
+pub ruleset words2 = (count2, keep2, nothing2, depending2, bit2, read2, note2, deliver2, deliver_unit2, unserved2, peer_busy2, own_busy2, rejecting2, pending2, asked2, owed2, repeats2, repeated2, enter2, clear2, start2, no_timer2, reset2, zero2, discard2, received2, anew2, data2, send2, enquire2, answer2, report2, reject2)
 
-pub ruleset tests2 = (asked_tells, peer_tells, own_tells, rejecting_tells, repeat_tells, outstanding_tells, next_tells)
+pub ruleset tests2 = (asked_tells, owed_tells, peer_tells, own_tells, rejecting_tells, repeat_tells, outstanding_tells, next_tells)
 
 pub ruleset rows2 = (words2, tests2)

@@ -1,5 +1,5 @@
 -- Worked values: links and TEI management in an image. Each computes.
-use Rattle.std.specs.Prelude.{◌≡◌, [], ◌∷◌, ◌++◌, replicate, Some, true, false, refl}
+use Rattle.std.specs.Prelude.{◌≡◌, ◌+◌, [], ◌∷◌, ◌++◌, replicate, Some, true, false, refl}
 use Rattle.lapd_seq.specs.Numbers.{seq}
 use Rattle.lapd_frame.specs.declared.controls.Control.TheVariants.{ReceiveReady}
 use Rattle.lapd_frame.specs.declared.readings.Reading.TheVariants.{Profile}
@@ -8,7 +8,7 @@ use Rattle.model_teis.specs.declared.network.check.Period.TheVariants.{Second}
 use Rattle.model_teis.specs.declared.network.messages.Message.TheVariants.{IdentityAssigned}
 use Rattle.model_teis.specs.declared.terminal.messages.Message.TheVariants as terminals
 use Rattle.model_teis.specs.declared.terminal.procedure.Procedure.TheVariants.{Asking}
-use Rattle.model_link.specs.declared.states.State.TheVariants.{Established}
+use Rattle.model_link.specs.declared.states.State.TheVariants.{AwaitingEstablishment, Established}
 use Rattle.model_link.specs.declared.timers.LinkTimer.TheVariants.{T200}
 use Rattle.model_link.specs.Link.{Link, fresh}
 use Rattle.model_line.specs.Line.{Own}
@@ -45,6 +45,11 @@ busy_image : link busy_link
     ∷ 2 ∷ 2 ∷ 0 ∷ 0x0A ∷ 0x0B ∷ 1 ∷ 0 ∷ 0x0C ∷ 1 ∷ 0 ∷ 0x01 ∷ 0x03 ∷ []
 unfolding number seq
 busy_image = refl
+
+-- A release is owed in state 5, while T200 runs.
+owing_image : link (record fresh { state = AwaitingEstablishment; owed = true; running = Some T200 }) ≡ (5 + 64) ∷ 32 ∷ replicate 17 0
+unfolding number
+owing_image = refl
 
 -- The network's side: the TEI 64 was assigned for Ri 1,000, and its answer waits; TEI 65 is in the second period of a check,
 -- with a response in the first.

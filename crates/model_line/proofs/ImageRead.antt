@@ -106,6 +106,7 @@ same-link l m e = subst (λ (m : Link). IsSameLink l m) e (record {
   rejecting = refl;
   pending = refl;
   asked = refl;
+  owed = refl;
   repeats = refl;
   running = refl;
   waiting = refl;

@@ -36,5 +36,5 @@ fresh_sound c ranged = record {
     seed_low false = omega arith
 
     begins : (b : Bool) → IsOfSide b (fresh_line c).management (fresh_line c).own
-    begins true = (terminal_fresh c.terminals (seed_of c) (ranges_of c ranged).terminals.most (seed_low (is_terminal c)), record { remembered = refl; check = refl; to_check = ap (λ n. replicate n false) (sym (length-replicate c.terminals None)); waiting = refl })
+    begins true = (terminal_fresh c.reading c.terminals (seed_of c) (ranges_of c ranged).terminals.most (seed_low (is_terminal c)), record { remembered = refl; check = refl; to_check = ap (λ n. replicate n false) (sym (length-replicate c.terminals None)); waiting = refl })
     begins false = (refl, refl)

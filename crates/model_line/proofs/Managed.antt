@@ -14,6 +14,7 @@ use Rattle.model_teis.specs.terminal.Laws as terminal_laws
 use Rattle.model_teis.specs.terminal.Sound as terminal
 use Rattle.model_teis.specs.terminal.Words.{Course, begun}
 use Rattle.model_teis.specs.terminal.Rows.{expire_procedure}
+use Rattle.model_teis.proofs.OfTerminal.Read.{reading_stays}
 use Rattle.model_teis.proofs.OfTerminal.Rising.{few_more_wait}
 use Rattle.model_teis.proofs.OfTerminal.Served.{leads}
 use Rattle.model_teis.proofs.OfTerminal.Told.{t202_follows, expired_t202_follows, unserved_changes_nothing}
@@ -171,7 +172,7 @@ module _ (c : Config) (l : Line) (s : IsSound c l) where
   at_terminal_line is = subst (λ b. IsOfSide b l.management l.own) is s.own
 
   abbrev management_after : TerminalEvent → Management
-  management_after e = record l.management { places = (terminal_after e t).places }
+  management_after e = let after = terminal_after e t in record l.management { reading = after.reading; places = after.places }
 
   abbrev own_after : TerminalEvent → Own
   own_after e = let after = terminal_after e t in record { number = after.number; procedure = after.procedure; waiting = after.waiting }
@@ -183,7 +184,7 @@ module _ (c : Config) (l : Line) (s : IsSound c l) where
       let same = unserved_changes_nothing e t is.0 in (
         ap told_of_management same.1 ∙ ap dropped is.1,
         ap (λ (told : TeiTold). told.change) same.1,
-        ap (λ (now : Terminal). record l.management { places = now.places }) same.0,
+        ap (λ (now : Terminal). record l.management { reading = now.reading; places = now.places }) same.0,
         ap (λ (now : Terminal). record { number = now.number; procedure = now.procedure; waiting = now.waiting }) same.0,
       )
 
@@ -199,7 +200,7 @@ module _ (c : Config) (l : Line) (s : IsSound c l) where
       record {
         moves = led.moves;
         sound = sound_unused (management_after e) led.sound.table unused;
-        reading = s.reading;
+        reading = reading_stays e t ∙ s.reading;
         owned = subst (λ b. IsOfSide b (management_after e) (own_after e)) (sym is) (led.sound, unused);
         contents = refl;
         few_notes = (own_brief e t).notes;

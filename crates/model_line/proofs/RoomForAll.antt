@@ -36,7 +36,7 @@ passed row rest e = skipped row.holds row.why (first_that_holds rest) e
 -- data for a link whose queue has a place
 data_finds : (c : Config) (l : Line) (service : Service) (tei : ℕ) (contents : List ℕ) (o : Option ℕ) → IsSound c l → place_in l tei ≡ o
     → let x = option_map_or (link_in l service) o fresh in
-    not (serves x.state (LinkData contents)) ≡ false → is_queue_full (terms c service tei) x ≡ false → slots_of c l + 1 ≤ places_of c
+    not (serves c.reading x.state x.owed (LinkData contents)) ≡ false → is_queue_full (terms c service tei) x ≡ false → slots_of c l + 1 ≤ places_of c
 data_finds c l service tei contents None s e serving room = absurd (true≢false serving)
 data_finds c l service tei contents (Some place) s e serving room =
     let within : place < c.terminals = omega (arith, s.places, at-within l.management.places place tei ((place_of-is l.management.places tei place e).1)) in
@@ -51,8 +51,8 @@ accepted_finds : (c : Config) (r : Request) (l : Line) → IsSound c l → carri
 accepted_finds c (Data service tei contents) l s carries e =
     let last = pool_full false ∷ [] in
     let fourth = too_long c contents ∷ queue_full c service tei l ∷ last in
-    let third = wrong_state service tei (LinkData contents) l ∷ fourth in
-    let serving = passed (wrong_state service tei (LinkData contents) l) fourth (passed (no_link tei l) third (passed (bad_tei tei) (no_link tei l ∷ third) e).1).1 in
+    let third = wrong_state c service tei (LinkData contents) l ∷ fourth in
+    let serving = passed (wrong_state c service tei (LinkData contents) l) fourth (passed (no_link tei l) third (passed (bad_tei tei) (no_link tei l ∷ third) e).1).1 in
     let room = passed (queue_full c service tei l) last (passed (too_long c contents) (queue_full c service tei l ∷ last) serving.1).1 in
     data_finds c l service tei contents (place_in l tei) s refl serving.0 room.0
 accepted_finds c (Unit service tei contents) l s carries e =

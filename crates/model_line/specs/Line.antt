@@ -114,14 +114,14 @@ with_link number link l = record l { links = set l.links number link }
 
 -- TEI management of a terminal, and the line with another one in its place.
 abbrev pub terminal_with : Management → Own → terminals.Terminal
-terminal_with m own = record { places = m.places; number = own.number; procedure = own.procedure; waiting = own.waiting }
+terminal_with m own = record { reading = m.reading; places = m.places; number = own.number; procedure = own.procedure; waiting = own.waiting }
 
 abbrev pub terminal_in : Line → terminals.Terminal
 terminal_in l = terminal_with l.management l.own
 
 abbrev pub with_terminal : terminals.Terminal → Line → Line
 with_terminal t l = record l {
-  management = record l.management { places = t.places };
+  management = record l.management { reading = t.reading; places = t.places };
   own = record { number = t.number; procedure = t.procedure; waiting = t.waiting };
 }
 

@@ -35,8 +35,9 @@ bad_tei_or_group c tei = record { why = BadTei; holds = nat_lt (last_unit_tei c.
 abbrev pub no_link_nor_group : ℕ → Line → Row
 no_link_nor_group tei l = record { why = NoLink; holds = not (tei == 127) && not (has_tei tei l) }
 
-abbrev pub wrong_state : Service → ℕ → link.Request → Line → Row
-wrong_state service tei request l = record { why = WrongState; holds = not (serves (link_of service tei l).state request) }
+abbrev pub wrong_state : Config → Service → ℕ → link.Request → Line → Row
+wrong_state c service tei request l =
+    let x = link_of service tei l in record { why = WrongState; holds = not (serves c.reading x.state x.owed request) }
 
 abbrev pub too_long : Config → List ℕ → Row
 too_long c contents = record { why = TooLong; holds = nat_lt c.n201 (length contents) }
@@ -88,10 +89,10 @@ not_terminal c = record { why = WrongSide; holds = not (is_terminal c) }
 
 -- The rows that apply to a request, in order, while the card's pool is full or not.
 abbrev pub rows : Config → Bool → Request → Line → List Row
-rows c full (Establish service tei) l = bad_tei tei ∷ no_link tei l ∷ wrong_state service tei link.Establish l ∷ []
-rows c full (Release service tei) l = bad_tei tei ∷ no_link tei l ∷ wrong_state service tei link.Release l ∷ []
+rows c full (Establish service tei) l = bad_tei tei ∷ no_link tei l ∷ wrong_state c service tei link.Establish l ∷ []
+rows c full (Release service tei) l = bad_tei tei ∷ no_link tei l ∷ wrong_state c service tei link.Release l ∷ []
 rows c full (Data service tei contents) l =
-    bad_tei tei ∷ no_link tei l ∷ wrong_state service tei (link.Data contents) l
+    bad_tei tei ∷ no_link tei l ∷ wrong_state c service tei (link.Data contents) l
     ∷ too_long c contents ∷ queue_full c service tei l ∷ pool_full full ∷ []
 rows c full (Unit service tei contents) l =
     bad_tei_or_group c tei ∷ no_link_nor_group tei l ∷ too_long c contents ∷ unit_queue_full c l ∷ pool_full full ∷ []
@@ -101,8 +102,8 @@ rows c full AskTei l = not_terminal c ∷ table_full l ∷ procedure_running l �
 rows c full (VerifyTei tei) l = not_terminal c ∷ bad_tei tei ∷ no_link tei l ∷ procedure_running l ∷ []
 rows c full (Check tei) l = not_network c ∷ bad_tei tei ∷ no_link tei l ∷ check_running l ∷ control_full l ∷ []
 rows c full (Disown tei) l = not_network c ∷ bad_tei_or_all tei ∷ tei_in_use tei l ∷ control_full l ∷ []
-rows c full (SetBusy service tei) l = bad_tei tei ∷ no_link tei l ∷ wrong_state service tei link.SetBusy l ∷ []
-rows c full (ClearBusy service tei) l = bad_tei tei ∷ no_link tei l ∷ wrong_state service tei link.ClearBusy l ∷ []
+rows c full (SetBusy service tei) l = bad_tei tei ∷ no_link tei l ∷ wrong_state c service tei link.SetBusy l ∷ []
+rows c full (ClearBusy service tei) l = bad_tei tei ∷ no_link tei l ∷ wrong_state c service tei link.ClearBusy l ∷ []
 rows c full (Deactivate service tei) l = bad_tei tei ∷ no_link tei l ∷ []
 rows c full Down l = []
 

@@ -96,8 +96,14 @@ pub record Careful (t : Terms) (Units Anew Taken Window Queued Offered : Type 0)
   pub enter_6 : (p q : Purse) (c : Course) → idle In c.link.a c.link.s (length c.link.contents) c.link.state → P p q c → E (Words.enter AwaitingRelease c)
   pub enter_7 : (p q : Purse) (c : Course) → P p q c → E (Words.enter Established c)
   pub enter_8 : Window → (p q : Purse) (c : Course) → In c.link.state Established → P p q c → E (Words.enter TimerRecovery c)
+  -- what layer 3 asks for in state 5: nothing is queued then
+  pub ask_anew : (p q : Purse) (c : Course) → idle In c.link.a c.link.s (length c.link.contents) c.link.state → P p q c
+      → E ((Words.asked_is true then Words.owed_is false) c)
+  pub owe : (p q : Purse) (c : Course) → In c.link.state AwaitingEstablishment → P p q c → E ((Words.asked_is false then Words.owed_is true) c)
+  pub owed_off : (p q : Purse) (c : Course) → P p q c → P p q (Words.owed_is false c)
   -- the numbers and the contents
   pub zero : Anew → (p q : Purse) (c : Course) → P p q c → P p q (Words.zero_numbers c)
+  pub reset : Anew → (p q : Purse) (c : Course) → P p q c → P p q (Words.reset_numbers c)
   pub begin_anew : Anew → (p q : Purse) (c : Course) → P p q c → E (Words.begin_anew c)
   pub discard : (p q : Purse) (c : Course) → P p q c → P p q (Words.discard c)
   pub acknowledge : (p q : Purse) (n : ℕ) (here : State) (c : Course) → c.link.a ≤ n → n ≤ c.link.s → In c.link.state here → IsTrue (is_multiple_frame here)
@@ -125,6 +131,12 @@ module _ {t : Terms} {Units Anew Taken : Type 0} {S : Course → Type 0} {P : Pu
   asks : (p q : Purse) (b : Bool) (c : Course) → P p q c → E ((Words.asked_is b then Words.enter AwaitingEstablishment) c)
   asks p q b c h = enters p q AwaitingEstablishment _ (k.asked p q b c h)
 
+  asks-anew : (p q : Purse) (asked owed : Bool) (c : Course) → P p q c → E ((Words.asked_is asked then Words.owed_is owed) c)
+  asks-anew p q asked owed c h = k.ends p q _ (k.owed p q owed _ (k.asked p q asked c h))
+
+  no-more-owed : (p q : Purse) (c : Course) → P p q c → P p q (Words.owed_is false c)
+  no-more-owed p q c h = k.owed p q false c h
+
   begins-anew : Anew → (p q : Purse) (c : Course) → P p q c → E (Words.begin_anew c)
   begins-anew may p q c h = k.ends p q _ (k.begin_anew may p q c h)
 
@@ -148,4 +160,4 @@ module _ {t : Terms} {Units Anew Taken : Type 0} {S : Course → Type 0} {P : Pu
   gives-information p q c h = k.sent_one p q _ (k.give p q _ _ c h)
 
   pub plainly : Careful t Units Anew Taken (Unit {0}) (Unit {0}) (Unit {0}) (λ state here. Unit {0}) S P E
-  plainly = search (k.begins, k.ends, k.unsent, k.untold, k.error, k.establish_indication, k.establish_confirm, k.release_indication, k.release_confirm, k.xid, k.taken, k.unit, k.unserved, k.send, k.peer_busy, k.busy, k.rejecting, k.settled, owes, k.flags, k.repeats, k.repeated, k.start, k.no_timer, enters, asks, k.zero, begins-anew, k.discard, k.acknowledge, goes-back, recovers, transfers, gives, gives-information, k.give, k.count) depth 12 fits 4000
+  plainly = search (k.begins, k.ends, k.unsent, k.untold, k.error, k.establish_indication, k.establish_confirm, k.release_indication, k.release_confirm, k.xid, k.taken, k.unit, k.unserved, k.send, k.peer_busy, k.busy, k.rejecting, k.settled, owes, k.flags, k.repeats, k.repeated, k.start, k.no_timer, enters, asks, asks-anew, no-more-owed, k.zero, k.reset, begins-anew, k.discard, k.acknowledge, goes-back, recovers, transfers, gives, gives-information, k.give, k.count) depth 12 fits 4000

@@ -2,10 +2,11 @@
 use Rattle.model_link.proofs.Vocabulary.{◌≡◌, ℕ, ◌<◌, ◌≤◌, Bool, true, false, IsTrue, List, Option, Some, None, inr, refl, sym, subst, ltb-true, true≢false, length-take, arith, Seq, seq, named, leb-true, Control, Information, ReceiveReady, ReceiveNotReady, Reject, Sabme, Disc, Ui, Ua, Dm, Frmr, Xid, ErrorCode, State, TeiAssigned, AwaitingEstablishment, AwaitingRelease, Established, TimerRecovery}
 use Rattle.model_link.proofs.Vocabulary.{LinkCounts, LinkTimer}
 use Rattle.model_link.proofs.Vocabulary.{T200, T203}
-use Rattle.model_link.proofs.Vocabulary.{ControlFrame, Terms, has_outstanding, is_asked, is_peer_busy, is_own_busy, is_multiple_frame, Course, Step, ◌then◌, nothing, depending_on, establish_in_4, frame_in_4, frame_in_5, frame_in_6, acknowledged_in_8, particulars_in_8, frame_in, response}
+use Rattle.model_link.proofs.Vocabulary.{ControlFrame, Terms, has_outstanding, is_asked, is_owed, is_peer_busy, is_own_busy, is_multiple_frame, Course, Step, ◌then◌, nothing, depending_on, establish_in_4, frame_in_4, frame_in_5, frame_in_6, acknowledged_in_8, particulars_in_8, frame_in, command, response}
 use Rattle.std.specs.Prelude.{◌&&◌}
 use Rattle.model_link.specs.Link.{Link, state_number, may_repeat, most_repeats, most_rc}
 use Rattle.model_link.specs.Words
+use Rattle.model_link.specs.AwaitingEstablishment as awaiting
 use Rattle.model_link.specs.MultipleFrame
 use Rattle.model_link.specs.Established
 use Rattle.model_link.proofs.Leads.{Leads, then_leads, depending_leads, bit_leads, tested_leads, read_leads, Passed, from_more, to_less}
@@ -94,6 +95,12 @@ module _ {t : Terms} {Units Anew Taken Window Queued Offered : Type 0} {In : Sta
   pub discard : {X : Claim} {p q : Purse} → Leads (At X (P p q)) Words.discard (At (idle In) (P p q))
   discard {p = p} {q = q} = grind (arith, length-take)
 
+  owed_off : {X : Claim} {p q : Purse} → Leads (At X (P p q)) (Words.owed_is false) (At X (P p q))
+  owed_off {p = p} {q = q} = record { leads = λ c h. record { known = h.known; holds = k.owed_off p q c h.holds } }
+
+  reset : {X : Claim} {p q : Purse} → Anew → Leads (At X (P p q)) Words.reset_numbers (At anything (P p q))
+  reset {p = p} {q = q} may = record { leads = λ c h. record { known = tt; holds = k.reset may p q c h.holds } }
+
   zero : {X : Claim} {p q : Purse} → Anew → Leads (At X (P p q)) Words.zero_numbers (At anything (P p q))
   zero {p = p} {q = q} may = record { leads = λ c h. record { known = tt; holds = k.zero may p q c h.holds } }
 
@@ -136,6 +143,13 @@ module _ {t : Terms} {Units Anew Taken Window Queued Offered : Type 0} {In : Sta
 
   pub enter_8 : {p q : Purse} → Leads (At (paid In Window Established) (P p q)) (Words.enter TimerRecovery) E
   enter_8 {p} {q} = record { leads = λ c h. k.enter_8 h.known.1 p q c h.known.0 h.holds }
+
+  -- layer 3 asks in state 5, or an establishment fails
+  pub ask_anew : {p q : Purse} → Leads (At (idle In) (P p q)) (Words.asked_is true then Words.owed_is false) E
+  ask_anew {p} {q} = record { leads = λ c h. k.ask_anew p q c h.known h.holds }
+
+  pub tell_failure : {X : Claim} {p q : Purse} → Leads (At X (P p (another q))) (awaiting.tell_failure t) (At X (P p q))
+  tell_failure = depending_leads is_owed (owed_off ▹ release_confirm) release_indication
 
   -- of what is known, only this counts
   pub knowing : {X Y : Claim} {Q R : Course → Type 0} {f : Step} → ((a s n : ℕ) (state : State) → X a s n state → Y a s n state)
@@ -217,6 +231,10 @@ module _ {t : Terms} {Units Anew Taken Window Queued Offered : Type 0} {In : Sta
   pub establish : {p q : Purse} → Leads (At (idle In) (P (another p) q)) (establish_in_4 t) E
   establish = flags ▹ send (sabme_waits t true) ▹ repeats 0 (omega arith) ▹ start T200 ▹ enter_5 {X = idle In} true (λ a s n state x on. x)
 
+  -- a link that is up is released
+  pub release_up : {X : Claim} {p q : Purse} → Leads (At X (P (another p) q)) (MultipleFrame.release_in_7_8 t) E
+  release_up = discard ▹ settled ▹ send (may_wait t (command (Disc true)) refl refl (omega arith) refl) ▹ repeats 0 (omega arith) ▹ start T200 ▹ enter_6
+
   -- state 4
   row_in_4 : (octets : List ℕ) (control : Control) → Fits Units Anew (Unit {0}) control → Leads (At (idle In) S) (frame_in_4 t octets control) E
   row_in_4 octets (Sabme p) may =
@@ -235,9 +253,9 @@ module _ {t : Terms} {Units Anew Taken Window Queued Offered : Type 0} {In : Sta
   row_in_5 octets (Sabme p) may = begun_by (ends (send (ua_waits t p)))
   row_in_5 octets (Disc p) may = begun_by (ends (send (may_wait t (response (Dm p)) refl refl (omega arith) refl)))
   row_in_5 octets (Ua true) may =
-      begun_by (depending_leads is_asked (loose establish_confirm) emptied ▹ zero may ▹ start T203 ▹ enter_7)
+      begun_by (depending_leads is_owed (reset may ▹ owed_off ▹ release_up) (depending_leads is_asked (loose establish_confirm) emptied ▹ zero may ▹ start T203 ▹ enter_7))
   row_in_5 octets (Ua false) may = begun_by (ends (error ErrorCode.D))
-  row_in_5 octets (Dm true) may = begun_by (discard ▹ release_indication ▹ no_timer ▹ enter_4)
+  row_in_5 octets (Dm true) may = begun_by (discard ▹ tell_failure ▹ no_timer ▹ enter_4)
   row_in_5 octets (Dm false) may = unserved
   row_in_5 octets (Ui p) may = unit_data may octets (malformed ErrorCode.O)
   row_in_5 octets (Xid pf) may = begun_by (ends xid)

@@ -1,5 +1,5 @@
 -- A link is read from an image.
-use Rattle.std.proofs.Common.{arith, ◌≡◌, ℕ, ◌<◌, ◌≤◌, ◌==◌, Bool, true, false, List, ◌++◌, length, slice_index, Option, Some, None, refl, sym, ap, ◌∙◌, if◌then◌else◌}
+use Rattle.std.proofs.Common.{arith, ◌≡◌, ℕ, ◌+◌, ◌*◌, ◌<◌, ◌≤◌, ◌==◌, Bool, true, false, List, ◌++◌, length, slice_index, Option, Some, None, refl, sym, ap, ◌∙◌, if◌then◌else◌}
 use Rattle.std.specs.Prelude.{All}
 use Rattle.std.proofs.lemmas.List.{append_cancel_left}
 use Rattle.std.proofs.lemmas.List.Elements.{All-drop}
@@ -19,7 +19,7 @@ use Rattle.model_link.specs.declared.timers.LinkTimer.TheVariants.{T200, T203}
 use Rattle.model_link.specs.Link.{Link, state_number, queue_of}
 use Rattle.model_link.specs.Told.{runs}
 use Rattle.lapd_image.specs.Numbers.{number, list_of, contents}
-use Rattle.model_link.specs.Image.{control_frame, link_flags, counted_of, counts, link}
+use Rattle.model_link.specs.Image.{control_frame, link_flags, state_octet, counted_of, counts, link}
 use Rattle.model_link.specs.Same.{IsSameLink}
 use Rattle.lapd_image.proofs.Reading.{heads, tails, split, Reads, number-read, equal-read, list-read, contents-read, all-unit}
 
@@ -53,6 +53,24 @@ state-back AwaitingEstablishment = refl
 state-back AwaitingRelease = refl
 state-back Established = refl
 state-back TimerRecovery = refl
+
+-- the state and the release that is owed share an octet
+state-low : (state : State) → state_number state ≤ 8
+state-low state = grind arith
+
+bit-low : (b : Bool) → bit_value b ≤ 1
+bit-low true = omega arith
+bit-low false = omega arith
+
+record ShareAnOctet (l m : Link) : Type 0 where
+  state : l.state ≡ m.state
+  owed : l.owed ≡ m.owed
+
+state-read : (l m : Link) → state_octet l ≡ state_octet m → ShareAnOctet l m
+state-read l m e =
+    let number : state_number l.state ≡ state_number m.state = omega (arith, e, state-low l.state, state-low m.state, bit-low l.owed, bit-low m.owed) in
+    let bit : bit_value l.owed ≡ bit_value m.owed = omega (arith, e, state-low l.state, state-low m.state, bit-low l.owed, bit-low m.owed) in
+    record { state = sym (state-back l.state) ∙ ap state_from number ∙ state-back m.state; owed = bit-read l.owed m.owed bit }
 
 -- the timer that runs, by two flags
 abbrev timer_from : Bool → Bool → Option LinkTimer
@@ -130,14 +148,14 @@ link-read l m r s few also e =
     let e6 = tails e5 in
     let counted : (l.counts ≡ m.counts) × ((list_of contents (queue_of l) ++ list_of control_frame l.waiting) ++ r ≡ (list_of contents (queue_of m) ++ list_of control_frame m.waiting) ++ s) =
     counts-read l.counts m.counts _ _ few.counts also.counts (split (counts l.counts) (list_of contents (queue_of l) ++ list_of control_frame l.waiting) (counts m.counts) (list_of contents (queue_of m) ++ list_of control_frame m.waiting) r s (tails e6)) in
-    let state : l.state ≡ m.state = sym (state-back l.state) ∙ ap state_from (heads e) ∙ state-back m.state in
+    let shared : ShareAnOctet l m = state-read l m (heads e) in
     let flags : HaveSameFlags l m = flags-read l m (heads e1) in
     let queue : (queue_of l ≡ queue_of m) × (list_of control_frame l.waiting ++ r ≡ list_of control_frame m.waiting ++ s) =
     list-read (λ (c : List ℕ). length c < 65536) contents contents-read (queue_of l) (queue_of m) _ _ few.queue also.queue (split (list_of contents (queue_of l)) (list_of control_frame l.waiting) (list_of contents (queue_of m)) (list_of control_frame m.waiting) r s counted.1) in
     let ring : (l.waiting ≡ m.waiting) × (r ≡ s) =
     list-read (λ (f : ControlFrame). Unit {0}) control_frame frame-read l.waiting m.waiting r s (all-unit l.waiting) (all-unit m.waiting) queue.1 in (
       record {
-        state = state;
+        state = shared.state;
         va = heads e3;
         sent = heads e4;
         vr = heads e5;
@@ -148,6 +166,7 @@ link-read l m r s few also e =
         rejecting = flags.rejecting;
         pending = flags.pending;
         asked = flags.asked;
+        owed = shared.owed;
         repeats = heads e2;
         running = flags.running;
         waiting = ring.0;

@@ -9,6 +9,7 @@ pub mod Rows
 pub mod Repeats
 pub mod Unserved
 pub mod SoundRows
+pub mod OwedRows
 pub mod SoundEvents
 pub mod Owes
 pub mod RiseEvents

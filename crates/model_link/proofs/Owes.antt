@@ -1,6 +1,6 @@
 -- What a link owes the line, and how each word raises it: a purse holds the frames that may still be sent.
 use Rattle.model_link.proofs.Vocabulary.{◌≡◌, ℕ, ◌+◌, ◌-◌, ◌≤◌, Bool, true, false, cond, IsTrue, List, [], ◌∷◌, ◌++◌, length, take, drop, Option, is_some, refl, arith, length-append, length-take-le, length-drop, State, TeiAssigned, AwaitingEstablishment, AwaitingRelease, Established, TimerRecovery, LinkTimer, T203, ControlFrame, Terms, may_send, window_back, data_in_7_8, is_multiple_frame}
-use Rattle.model_link.proofs.Vocabulary.{IsInRange, Sent, Course, ◌then◌, changed, acknowledge, asked_is, begin_anew, clear_flags, discard, enter, has_room, own_busy_is, pending_is, rr_or_rnr, report_receiver_status, response, send, send_again_from, start, with_own_busy, zero_numbers, give_acknowledgement, give_information, give_waiting, with_one_sent}
+use Rattle.model_link.proofs.Vocabulary.{IsInRange, Sent, Course, ◌then◌, changed, acknowledge, asked_is, begin_anew, clear_flags, discard, enter, has_room, own_busy_is, pending_is, rr_or_rnr, report_receiver_status, response, send, send_again_from, start, with_own_busy, zero_numbers, reset_numbers, owed_is, give_acknowledgement, give_information, give_waiting, with_one_sent}
 use Rattle.model_link.proofs.Waits.{Waits}
 use Rattle.model_link.proofs.Kept.{Purse, another, two}
 unfoldable use Rattle.model_link.proofs.Kept.{how_many}
@@ -71,6 +71,11 @@ module _ (t : Terms) (r : IsInRange t) (total extra : ℕ) (Window : Type 0) (pa
       let e : length (drop c.link.s c.link.contents) ≡ length c.link.contents - c.link.s = length-drop c.link.s c.link.contents in
       spends p p c (zero_numbers c) (sound.zero tt p p c h.stands) (omega (arith, e)) h
 
+  resets : (p : Purse) (c : Course) → Owes t total extra p c → Owes t total extra p (reset_numbers c)
+  resets p c h =
+      let e : length (drop c.link.s c.link.contents) ≡ length c.link.contents - c.link.s = length-drop c.link.s c.link.contents in
+      spends p p c (reset_numbers c) (sound.reset tt p p c h.stands) (omega (arith, e)) h
+
   discards : (p : Purse) (c : Course) → Owes t total extra p c → Owes t total extra p (discard c)
   discards p c h =
       let order : c.link.a ≤ c.link.s = h.stands.ordered in
@@ -87,6 +92,9 @@ module _ (t : Terms) (r : IsInRange t) (total extra : ℕ) (Window : Type 0) (pa
 
   enters-5 : (p : Purse) (b : Bool) (c : Course) → Owes t total extra p c → Within t total ((asked_is b then enter AwaitingEstablishment) c)
   enters-5 p b c h = record { within = omega (arith, h.within) }
+
+  asks-anew : (p : Purse) (asked owed : Bool) (c : Course) → Owes t total extra p c → Within t total ((asked_is asked then owed_is owed) c)
+  asks-anew p asked owed c h = record { within = omega (arith, h.within) }
 
   enters-6 : (p : Purse) (c : Course) → Owes t total extra p c → Within t total (enter AwaitingRelease c)
   enters-6 p c h = record { within = omega (arith, h.within) }
@@ -125,4 +133,4 @@ module _ (t : Terms) (r : IsInRange t) (total extra : ℕ) (Window : Type 0) (pa
   gives-acknowledgement p c o = absurd o
 
   pub costs : Careful t (Unit {0}) (Unit {0}) (Unit {0}) Window (Unit {0}) ⊥ is_in (Owes t total extra two) (λ p q c. Owes t total extra p c) (Within t total)
-  costs = search (done, saves, sends, settles, flags, reports, owes, zeroes, discards, acknowledges, enters-4, enters-5, enters-6, enters-7, enters-8, begins, again, recovers, transfers, gives-waiting, gives-information, gives-acknowledgement) depth 12 fits 4000
+  costs = search (done, saves, sends, settles, flags, reports, owes, zeroes, resets, discards, acknowledges, enters-4, enters-5, asks-anew, enters-6, enters-7, enters-8, begins, again, recovers, transfers, gives-waiting, gives-information, gives-acknowledgement) depth 12 fits 4000

@@ -2,7 +2,7 @@
 use Rattle.model_link.proofs.Vocabulary.{with_expiry, arith, ◌≡◌, ℕ, ◌≤◌, Bool, true, false, cond, List, [], ◌∷◌, Option, Some, None, inr, refl, Control, ErrorCode, Refusal, State, TeiAssigned, AwaitingEstablishment, AwaitingRelease, Established, TimerRecovery, LinkTimer, T200, T203, ControlFrame, Terms, Link, is_own_busy, Course, Step, ◌then◌, nothing, ClearBusy, Data, Establish, Event, Release}
 use Rattle.model_link.proofs.Vocabulary.{Request, SetBusy}
 use Rattle.model_link.proofs.Vocabulary.{cleared}
-use Rattle.model_link.proofs.Vocabulary.{expired, frame, offer, overlong, received, requested, undefined, wrong_size, own_busy_is, report_receiver_status, clear_busy_in_7_8, set_busy_in_7_8, granted, refusal, release_in, is_awaiting_acknowledgement, is_pending, may_send_information, offer_among, send_acknowledgement, send_information, command, Disc}
+use Rattle.model_link.proofs.Vocabulary.{expired, frame, offer, overlong, received, requested, undefined, wrong_size, own_busy_is, report_receiver_status, clear_busy_in_7_8, set_busy_in_7_8, granted, refusal, establish_in, release_in, release_in_5, is_awaiting_acknowledgement, is_pending, may_send_information, offer_among, send_acknowledgement, send_information, command, Disc}
 use Rattle.lapd_frame.specs.declared.readings.Reading.{Reading}
 use Rattle.lapd_frame.specs.declared.readings.Reading.TheVariants.{Profile, AnnexB}
 use Rattle.std.proofs.Math.Nat.{min-le_right}
@@ -13,7 +13,7 @@ use Rattle.model_link.proofs.Leads.{Leads, depending_leads, tested_leads, Passed
 use Rattle.model_link.proofs.Waits.{sabme_waits, may_wait}
 use Rattle.model_link.proofs.Kept.{Purse, no_more, two, Fits, FitsEvent, Kept, any_event}
 use Rattle.model_link.proofs.Careful.{Claim, At, anything, paid, QueuesFor, Queues, Careful, plainly, any_contents}
-use Rattle.model_link.proofs.FrameRows.{one, repeats-low, ◌▹◌, error, release_indication, release_confirm, send, settled, repeats, repeated, start, no_timer, count, discard, ready, untold, ends, stays, enter_4, enter_6, enter_8, knowing, begun_by, malformed, establish, failed, frame_by}
+use Rattle.model_link.proofs.FrameRows.{one, repeats-low, ◌▹◌, error, release_indication, release_confirm, send, settled, repeats, repeated, start, no_timer, count, discard, ready, untold, ends, stays, enter_4, enter_6, enter_8, knowing, begun_by, malformed, establish, ask_anew, tell_failure, release_up, failed, frame_by}
 
 -- an enquiry begins with no more repeats than there may be
 few-first : (reading : Reading) (n200 : ℕ) (timer : LinkTimer) → first_repeats reading n200 timer ≤ n200
@@ -42,7 +42,7 @@ module _ {t : Terms} {Units Anew Taken Window Queued Offered : Type 0} {In : Sta
   expired_by TeiAssigned timer = stays k
   expired_by AwaitingEstablishment T200 =
       tested_leads (may_repeat t) (ends k (repeated k (λ c. refl) (send k (sabme_waits t true)) ▹ start k T200))
-      (passed (discard k ▹ error k ErrorCode.G ▹ release_indication k ▹ no_timer k ▹ enter_4 k))
+      (passed (discard k ▹ error k ErrorCode.G ▹ tell_failure k ▹ no_timer k ▹ enter_4 k))
   expired_by AwaitingEstablishment T203 = stays k
   expired_by AwaitingRelease T200 =
       tested_leads (may_repeat t) (ends k (repeated k (λ c. refl) (send k (may_wait t (command (Disc true)) refl refl (omega arith) refl)) ▹ start k T200))
@@ -52,12 +52,23 @@ module _ {t : Terms} {Units Anew Taken Window Queued Offered : Type 0} {In : Sta
   expired_by TimerRecovery T200 = tested_leads (may_repeat t) (ends k (repeated k (λ c. refl) (ready k true) ▹ start k T200)) (passed (failed k ErrorCode.I))
   expired_by TimerRecovery T203 = stays k
 
-  pub release_by : (here : State) → Leads (At anything (P one two)) (release_in here t) E
+  abbrev in_state : State → Claim
+  in_state here a s n state = In state here
+
+  owe : (c : Course) → In c.link.state AwaitingEstablishment → P one two c → E (release_in_5 c)
+  owe c here h = k.owe one two _ here (k.discard one two c h)
+
+  pub establish_by : (here : State) → Leads (At (in_state here) (P one two)) (establish_in here t) E
+  establish_by TeiAssigned = knowing k (λ a s n state x. inr (TeiAssigned, x, refl)) (establish k)
+  establish_by AwaitingEstablishment = discard k ▹ ask_anew k
+  establish_by other = stays k
+
+  pub release_by : (here : State) → Leads (At (in_state here) (P one two)) (release_in here t) E
   release_by TeiAssigned = ends k (release_confirm k)
-  release_by AwaitingEstablishment = stays k
+  release_by AwaitingEstablishment = record { leads = λ c h. owe c h.known h.holds }
   release_by AwaitingRelease = stays k
-  release_by Established = discard k ▹ settled k ▹ send k (may_wait t (command (Disc true)) refl refl (omega arith) refl) ▹ repeats k 0 (omega arith) ▹ start k T200 ▹ enter_6 k
-  release_by TimerRecovery = discard k ▹ settled k ▹ send k (may_wait t (command (Disc true)) refl refl (omega arith) refl) ▹ repeats k 0 (omega arith) ▹ start k T200 ▹ enter_6 k
+  release_by Established = release_up k
+  release_by TimerRecovery = release_up k
 
   still : Leads (P one two) nothing E
   still = record { leads = λ c h. k.ends one two c h }
@@ -73,10 +84,8 @@ module _ {t : Terms} {Units Anew Taken Window Queued Offered : Type 0} {In : Sta
 
   pub granted_by : (request : Request) (full : Bool) → QueuesFor Queued request → (c : Course) → P one two c
       → refusal t c.link full request ≡ None → E (granted t request c)
-  granted_by Establish full may c h e =
-      (establish k).leads c
-      (record { known = inr (c.link.state, k.is_in c.link.state, (grind arith)); holds = h })
-  granted_by Release full may c h e = (release_by c.link.state).leads c (record { known = tt; holds = h })
+  granted_by Establish full may c h e = (establish_by c.link.state).leads c (record { known = k.is_in c.link.state; holds = h })
+  granted_by Release full may c h e = (release_by c.link.state).leads c (record { known = k.is_in c.link.state; holds = h })
   granted_by (Data octets) full may c h e = k.transfer may no_more two octets full c e h
   granted_by SetBusy full may c h e = set_busy_by.leads c h
   granted_by ClearBusy full may c h e = clear_busy_by.leads c h
@@ -103,7 +112,7 @@ module _ {t : Terms} {Units Anew Taken Window Queued Offered : Type 0} {In : Sta
   offer_by may (f ∷ fs) c h e = k.give_waiting may two two f fs c e h
 
   told_of_clearing : (here : State) → Leads (At anything (P two two)) (Machine.told_of_clearing here t) (At anything (P two one))
-  told_of_clearing here = grind (arith, untold, release_confirm, release_indication)
+  told_of_clearing here = grind (arith, untold, release_confirm, release_indication, tell_failure)
 
   -- every event that is among those of the claim
   pub event_by : Window → Offered → (e : Event) → FitsEvent Units Anew Taken e → Queues Queued e → Leads S (Machine.step t e) E

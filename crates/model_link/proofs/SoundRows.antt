@@ -62,6 +62,13 @@ module _ {t : Terms} {q : ℕ} {contents : List (List ℕ)} {a s g : ℕ} {state
   asking : (b : Bool) → (IsTrue b → idle is_in a s (length contents) state) → Standing t q contents a s g AwaitingEstablishment b ws own pending
   asking b i = entering AwaitingEstablishment b (λ on. grind (arith, at-rest))
 
+  -- layer 3 asks in state 5, for the establishment or for the release
+  asking-anew : idle is_in a s (length contents) state → Standing t q contents a s g state true ws own pending
+  asking-anew i = entering state true (settles-none a (length contents) state true (grind (arith, at-rest)))
+
+  owing : state ≡ AwaitingEstablishment → Standing t q contents a s g state false ws own pending
+  owing e = entering state false (grind arith)
+
   up : (here : State) → IsTrue (is_multiple_frame here) → Standing t q contents a s g here asked ws own pending
   up here m = entering here asked (grind arith)
 
@@ -166,4 +173,4 @@ module _ (t : Terms) (r : t.tei ≤ 126) (q : ℕ) (Queued : Type 0) (room : Que
   recovers i timer c from to h = up (going-back h i from to) Established refl
 
   pub stand : Careful t (Unit {0}) (Unit {0}) (Unit {0}) (Unit {0}) Queued (Unit {0}) is_in (CourseStands t q) (λ p p' c. CourseStands t q c) (CourseStands t q)
-  stand = search (silent, owes, resting, asking, up, sending, r, gone, acknowledging, going-back, recovers, discarding, zeroing, transfers, sent, reports, begins) depth 12 fits 4000
+  stand = search (silent, owes, resting, asking, asking-anew, owing, up, sending, r, gone, acknowledging, going-back, recovers, discarding, zeroing, transfers, sent, reports, begins) depth 12 fits 4000

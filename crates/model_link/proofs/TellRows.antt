@@ -1,8 +1,8 @@
 -- Each row of the tables tells at most two notes.
 use Rattle.model_link.proofs.Vocabulary.{◌≡◌, ℕ, ◌+◌, ◌≤◌, zero-add, Bool, cond, ◌&&◌, List, [], ◌∷◌, ◌++◌, length, Option, None, is_some, ◌⊎◌, inr, refl, sym, ap, ◌∙◌, arith, length-append, Control, Ui, ErrorCode, Note, State, TeiAssigned, AwaitingEstablishment, AwaitingRelease, Established, TimerRecovery, LinkTimer, T200, T203, Terms, Link, Course, begun, Step, by_bit}
-use Rattle.model_link.proofs.Vocabulary.{list_any, Timer, Order, Start, Stop, is_data, is_unit, runs, orders_for, starts, Event, cleared, frame, received, nat_lt, deliver_unit, failed, long_unit_in_7_8, leave_unserved, malformed, read_as}
+use Rattle.model_link.proofs.Vocabulary.{is_owed, list_any, Timer, Order, Start, Stop, is_data, is_unit, runs, orders_for, starts, Event, cleared, frame, received, nat_lt, deliver_unit, failed, long_unit_in_7_8, leave_unserved, malformed, read_as}
 use Rattle.model_link.specs.Machine
-use Rattle.model_link.proofs.Leads.{Leads}
+use Rattle.model_link.proofs.Leads.{Leads, depending_leads}
 use Rattle.model_link.proofs.Telling.{Purse, no_more, another, how_many, Telling, HasTold, ToldWithin, untold, note-told, words}
 use Rattle.model_link.proofs.Kept.{two, Fits, FitsEvent}
 use Rattle.model_link.proofs.Careful.{anything, Careful, plainly}
@@ -26,6 +26,7 @@ module _ (t : Terms) where
 
   pub cleared_tells : (here : State) → Leads (Telling 1 (another no_more)) (Machine.told_of_clearing here t) (Telling 1 no_more)
   cleared_tells TeiAssigned = search (untold)
+  cleared_tells AwaitingEstablishment = depending_leads is_owed (search (note-told)) (search (note-told))
   cleared_tells other = search (note-told)
 
   -- Each event.

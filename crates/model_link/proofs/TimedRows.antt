@@ -16,6 +16,7 @@ module _ (t : Terms) where
   frame_timed here b octets other = search rows depth 14 fits 6000
 
   expired_timed : (here : State) (timer : LinkTimer) → Leads (At here) (expired_in here timer t) Ends
+  expired_timed AwaitingEstablishment T200 = search rows depth 14 fits 6000
   expired_timed here timer = grind (arith, ends, here)
 
 -- as the law says it, and back

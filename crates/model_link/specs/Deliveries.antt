@@ -1,9 +1,9 @@
 -- The I-frames that may be delivered, and what is delivered, since the numbers of an establishment began.
-use Rattle.std.specs.Prelude.{◌≡◌, ℕ, ◌&&◌, not, nat_le, Bool, true, List, length, Option, None, Some, if◌then◌else◌}
+use Rattle.std.specs.Prelude.{◌≡◌, ◌⊎◌, ℕ, ◌&&◌, not, nat_le, Bool, true, List, length, Option, None, Some, if◌then◌else◌}
 use Rattle.lapd_seq.specs.declared.numbers.Seq.{Seq}
 use Rattle.lapd_frame.specs.declared.controls.Control.{Control}
 use Rattle.lapd_frame.specs.declared.controls.Control.TheVariants.{Information, Sabme, Ua}
-use Rattle.model_link.specs.declared.states.State.TheVariants.{Established}
+use Rattle.model_link.specs.declared.states.State.TheVariants.{Established, AwaitingRelease}
 use Rattle.model_link.specs.declared.terms.Terms.{Terms}
 use Rattle.model_link.specs.Link.{Link, fresh, is_multiple_frame}
 use Rattle.model_link.specs.Events.{frame, Event, received, cleared}
@@ -43,10 +43,11 @@ MayEstablish (Sabme p) = Unit {0}
 MayEstablish (Ua true) = Unit {0}
 MayEstablish other = ⊥
 
--- After an establishment the link is in state 7 with its numbers zero; after the end of its TEI it is as one that begins.
+-- After an establishment the link is in state 7 with its numbers zero, or in state 6 if a release was owed; after the end of its
+-- TEI it is as one that begins.
 pub record IsEstablished (control : Control) (l : Link) : Type 0 where
   pub by : MayEstablish control
-  pub state : l.state ≡ Established
+  pub state : (l.state ≡ Established) ⊎ (l.state ≡ AwaitingRelease)
   pub a : l.a ≡ 0
   pub s : l.s ≡ 0
   pub r : l.r ≡ 0

@@ -1,5 +1,5 @@
 -- A link in an image of its card. Its service and its TEI follow from where it stands, its parameters from the configuration.
-use Rattle.std.specs.Prelude.{ℕ, ◌%◌, Bool, List, [], ◌∷◌, ◌++◌, ◌≤◌, flat_map, All, Option, None, Some}
+use Rattle.std.specs.Prelude.{ℕ, ◌%◌, ◌+◌, ◌*◌, Bool, List, [], ◌∷◌, ◌++◌, ◌≤◌, flat_map, All, Option, None, Some}
 use Rattle.lapd_frame.specs.declared.services.Service.{Service}
 use Rattle.lapd_frame.specs.declared.timers.Timer.{Timer}
 use Rattle.lapd_frame.specs.declared.timers.Timer.TheVariants as line_timer
@@ -32,12 +32,16 @@ counted_of c = c.sent_again ∷ c.t200_expired ∷ c.rejects_sent ∷ c.rejects_
 abbrev pub counts : LinkCounts → List ℕ
 counts c = flat_map (number 2) (counted_of c)
 
--- One octet each: the state, 4 to 8; the flags; RC; V(A); how many I-frames are outstanding; V(R); and how many of the contents
+-- The state, 4 to 8, with bit 7 of the octet if a release is owed.
+abbrev pub state_octet : Link → ℕ
+state_octet l = state_number l.state + 64 * bit_value l.owed
+
+-- One octet each: the state; the flags; RC; V(A); how many I-frames are outstanding; V(R); and how many of the contents
 -- from V(S) on go again. Then what was counted; the contents that are kept, from V(A) on; and the control frames that wait, the
 -- oldest first.
 abbrev pub link : Link → List ℕ
 link l =
-    state_number l.state ∷ number_of (link_flags l) ∷ l.repeats ∷ l.a % 128 ∷ outstanding l ∷ l.r % 128 ∷ l.again
+    state_octet l ∷ number_of (link_flags l) ∷ l.repeats ∷ l.a % 128 ∷ outstanding l ∷ l.r % 128 ∷ l.again
     ∷ (counts l.counts ++ (list_of contents (queue_of l) ++ list_of control_frame l.waiting))
 
 -- What may be saved of it: its counts have 16 bits, and contents are octets.

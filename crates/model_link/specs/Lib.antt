@@ -31,3 +31,4 @@ pub mod TwoEnds
 pub mod Timed
 pub mod Image
 pub mod Same
+mod WorkedOwed

@@ -41,6 +41,9 @@ pub record Link : Type 0 where
   pub pending : Bool
   -- layer 3 asked for the establishment that is awaited
   pub asked : Bool
+  -- layer 3 asked for the release while the establishment was awaited, and was granted it: it is to be carried out (annex B,
+  -- state 5; by that reading alone)
+  pub owed : Bool
   -- how often the command that waits for its answer was repeated: RC
   pub repeats : ℕ
   -- the timer that runs
@@ -64,6 +67,7 @@ fresh = record {
   rejecting = false;
   pending = false;
   asked = false;
+  owed = false;
   repeats = 0;
   running = None;
   waiting = [];
@@ -87,6 +91,9 @@ has_outstanding l = not (l.s == l.a)
 
 abbrev pub is_asked : Link → Bool
 is_asked l = l.asked
+
+abbrev pub is_owed : Link → Bool
+is_owed l = l.owed
 
 abbrev pub is_peer_busy : Link → Bool
 is_peer_busy l = l.peer_busy

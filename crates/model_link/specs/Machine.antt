@@ -15,7 +15,7 @@ use Rattle.model_link.specs.Told.{LinkTold, Given, of_call, of_packet, runs, ord
 use Rattle.model_link.specs.Steps.{Sent, Course, begun, Step, ◌then◌, nothing, depending_on}
 use Rattle.model_link.specs.Words.{count, malformed, release_indication, release_confirm, begin_anew}
 use Rattle.model_link.specs.TeiAssigned.{frame_in_4}
-use Rattle.model_link.specs.AwaitingEstablishment.{frame_in_5, t200_in_5}
+use Rattle.model_link.specs.AwaitingEstablishment.{frame_in_5, t200_in_5, tell_failure}
 use Rattle.model_link.specs.AwaitingRelease.{frame_in_6, t200_in_6}
 use Rattle.model_link.specs.MultipleFrame.{failed}
 use Rattle.model_link.specs.Established.{frame_in_7, timer_in_7}
@@ -77,7 +77,7 @@ expired_step t timer = depending_on (is_running timer) (expire_running timer t) 
 -- one that begins.
 abbrev pub told_of_clearing : State → Terms → Step
 told_of_clearing TeiAssigned t = nothing
-told_of_clearing AwaitingEstablishment t = release_indication t
+told_of_clearing AwaitingEstablishment t = tell_failure t
 told_of_clearing AwaitingRelease t = release_confirm t
 told_of_clearing Established t = release_indication t
 told_of_clearing TimerRecovery t = release_indication t

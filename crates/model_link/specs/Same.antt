@@ -16,6 +16,7 @@ pub record IsSameLink (l m : Link) : Type 0 where
   pub rejecting : l.rejecting ≡ m.rejecting
   pub pending : l.pending ≡ m.pending
   pub asked : l.asked ≡ m.asked
+  pub owed : l.owed ≡ m.owed
   pub repeats : l.repeats ≡ m.repeats
   pub running : l.running ≡ m.running
   pub waiting : l.waiting ≡ m.waiting

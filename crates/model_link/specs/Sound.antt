@@ -1,6 +1,7 @@
 -- What holds of every link between two events.
 use Rattle.std.specs.Prelude.{◌≡◌, ℕ, ◌+◌, ◌≤◌, Bool, true, false, IsTrue, List, [], length, All, Option, IfSome, unwrap_or}
 use Rattle.lapd_frame.specs.declared.addresses.Side.TheVariants.{Network}
+use Rattle.lapd_frame.specs.declared.readings.Reading.TheVariants.{AnnexB}
 use Rattle.lapd_frame.specs.declared.controls.Control.{Control}
 use Rattle.lapd_frame.specs.declared.controls.Control.TheVariants.{Information}
 use Rattle.lapd_frame.specs.Grammar.{IsFrame, spelling}
@@ -42,6 +43,13 @@ pub record IsWaitingFrame (t : Terms) (f : ControlFrame) : Type 0 where
   pub octets : length (spelling Network (frame_of t f)) ≤ 4
   pub without_contents : is_information f.control ≡ false
 
+-- A release is owed in state 5 alone, by annex B. Layer 3 did not ask for the establishment then, and nothing is queued.
+pub record IsOwing (t : Terms) (l : Link) : Type 0 where
+  pub state : l.state ≡ AwaitingEstablishment
+  pub reading : t.reading ≡ AnnexB
+  pub asked : l.asked ≡ false
+  pub queue : length l.contents ≡ l.a
+
 pub record IsSound (t : Terms) (l : Link) : Type 0 where
   -- V(A) is not beyond V(S), nor V(S) and what goes again beyond what was accepted; at most k are outstanding (clause 5.6.1)
   pub ordered : l.a ≤ l.s
@@ -49,6 +57,7 @@ pub record IsSound (t : Terms) (l : Link) : Type 0 where
   pub again : l.s + l.again ≤ length l.contents
   pub within : l.s ≤ l.a + t.k
   pub settled : IsSettledIn l.state l
+  pub owed : IsTrue l.owed → IsOwing t l
   -- the queue and the control frames keep within their capacities
   pub queue : length (queue_of l) ≤ t.queue
   pub ring : length l.waiting ≤ t.control

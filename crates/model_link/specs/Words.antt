@@ -87,6 +87,9 @@ with_pending b l = record l { pending = b }
 abbrev pub with_asked : Bool → Link → Link
 with_asked b l = record l { asked = b }
 
+abbrev pub with_owed : Bool → Link → Link
+with_owed b l = record l { owed = b }
+
 abbrev pub with_repeats : ℕ → Link → Link
 with_repeats n l = record l { repeats = n }
 
@@ -110,6 +113,9 @@ pending_is b = changed (with_pending b)
 
 abbrev pub asked_is : Bool → Step
 asked_is b = changed (with_asked b)
+
+abbrev pub owed_is : Bool → Step
+owed_is b = changed (with_owed b)
 
 abbrev pub repeats_are : ℕ → Step
 repeats_are n = changed (with_repeats n)
@@ -137,6 +143,13 @@ no_timer c = record c { link = record c.link { running = None }; started = None 
 
 -- The link is established: V(A), V(S) and V(R) become 0, and the numbers of the next establishment begin. What is not sent yet
 -- begins the new list.
+abbrev pub with_numbers_zero : Link → Link
+with_numbers_zero l = record l { contents = drop l.s l.contents; a = 0; s = 0; r = 0; again = 0 }
+
+abbrev pub reset_numbers : Step
+reset_numbers c = record c { link = with_numbers_zero c.link; zeroed = true }
+
+-- An establishment is counted, unless a release that is owed ends it at once.
 abbrev pub with_zero : Link → Link
 with_zero l = record l { contents = drop l.s l.contents; a = 0; s = 0; r = 0; again = 0; counts = with_establishment l.counts }
 

@@ -7,6 +7,7 @@ pub mod SoundWords
 mod Walk
 mod Answered
 pub mod Told
+pub mod Read
 pub mod Brief
 pub mod Numbered
 pub mod Rising

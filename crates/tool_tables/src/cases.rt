@@ -96,10 +96,11 @@ they wait.
 
 ### States 4, 5 and 6
 
-The numbers of a frame, and P and F of those that are not served, do not matter here.
+The numbers of a frame, and P and F of those that are not served, do not matter here. In the columns of a release layer 3
+has asked for the establishment and then for the release: by annex B it is owed, and the profile refuses it.
 
-|Event|4|5, layer 3 asked|5, RC = N200|5 again, one outstanding|5 again, one unsent|6|6, RC = N200|
-|---|---|---|---|---|---|---|---|";
+|Event|4|5, layer 3 asked|5, RC = N200|5, release|5, release, RC = N200|5 again, one outstanding|5 again, one unsent|6|6, RC = N200|
+|---|---|---|---|---|---|---|---|---|---|";
 
 const UP_HEAD: &str = "
 ### State 7
@@ -126,7 +127,7 @@ const RECOVERY_BUSY_HEAD: &str = "
 |---|---|---|---|---|---|";
 
 /// States 4, 5 and 6.
-const DOWN: [Case; 7] = [
+const DOWN: [Case; 9] = [
     Case {
         events: &[],
         held: &[],
@@ -137,6 +138,14 @@ const DOWN: [Case; 7] = [
     },
     Case {
         events: &[ESTABLISH, T200, T200, T200],
+        held: &[],
+    },
+    Case {
+        events: &[ESTABLISH, RELEASE],
+        held: &[],
+    },
+    Case {
+        events: &[ESTABLISH, RELEASE, T200, T200, T200],
         held: &[],
     },
     Case {

@@ -98,7 +98,7 @@ pub fn events() -> &'static [(&'static str, Event)] {
     &EVENTS
 }
 
-static EVENTS: [(&str, Event); 21] = [
+static EVENTS: [(&str, Event); 22] = [
     ("identity request, Ri 1", FIRST),
     ("identity request, Ri 2", SECOND),
     (
@@ -112,6 +112,10 @@ static EVENTS: [(&str, Event); 21] = [
     (
         "identity request, Ai 5",
         Manage(Message(&[15, 0, 4, 1, 11])),
+    ),
+    (
+        "identity request of six octets",
+        Manage(Message(&[15, 0, 4, 1, 255, 0])),
     ),
     (
         "identity verify, Ai 64",

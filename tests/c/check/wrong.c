@@ -23,6 +23,7 @@ static struct {
     lapd_due due;
     lapd_link link;
     lapd_head head;
+    lapd_fields fields;
     struct lapd_room room;
     struct lapd_counters counters;
     struct lapd_link_counters of_link;
@@ -90,6 +91,7 @@ static void no_card(void) {
     ANSWERS(LAPD_NO_CARD, ASK(&none, 0, LAPD_ASSIGN, LAPD_CALL, 64));
     ANSWERS(LAPD_NO_CARD, lapd_line_down(&none, 0, &own.place, &own.report));
     ANSWERS(LAPD_NO_CARD, lapd_fall_due(&none, 0, &own.report));
+    ANSWERS(LAPD_NO_CARD, lapd_now(&none, &own.moment));
     ANSWERS(LAPD_NO_CARD, lapd_next_moment(&none, &own.moment));
     ANSWERS(LAPD_NO_CARD, lapd_changed_at(&none, 0, LAPD_CALL, 64, &own.moment));
     ANSWERS(LAPD_NO_CARD, lapd_card_set_lengths(&none, &lengths));
@@ -145,6 +147,7 @@ static void wrong_card(void) {
     ANSWERS(LAPD_WRONG_CARD, lapd_next_frame(&card, 0, own.out, sizeof own.out, &own.length, &own.report));
     ANSWERS(LAPD_WRONG_CARD, lapd_next_waiting(&card, 0, &own.number));
     ANSWERS(LAPD_WRONG_CARD, lapd_fall_due(&card, 0, &own.report));
+    ANSWERS(LAPD_WRONG_CARD, lapd_now(&card, &own.moment));
     ANSWERS(LAPD_WRONG_CARD, lapd_next_moment(&card, &own.moment));
     ANSWERS(LAPD_WRONG_CARD, lapd_changed_at(&card, 0, LAPD_CALL, 64, &own.moment));
     ANSWERS(LAPD_WRONG_CARD, lapd_card_set_lengths(&card, &too_short));
@@ -177,6 +180,9 @@ static void wrong_words(void) {
     ANSWERS(LAPD_NO_FRAME, lapd_next_waiting(&timed, 0, &own.number));
     ANSWERS(LAPD_NO_TIMER, lapd_next_moment(&timed, &own.moment));
     ANSWERS(LAPD_REFUSED_NO_LINK, lapd_changed_at(&timed, 0, LAPD_CALL, 64, &own.moment));
+    ANSWERS(LAPD_WRONG_LENGTH, lapd_frame_read(octets, 1029, LAPD_USER, &own.fields));
+    ANSWERS(LAPD_BAD_SIDE, lapd_frame_read(octets, 3, 3, &own.fields));
+    ANSWERS(LAPD_FRAME_SHORT, lapd_frame_read(octets, 2, LAPD_USER, &own.fields));
     ANSWERS(LAPD_WRONG_LENGTH, lapd_frame_text(octets, 1029, LAPD_USER, own.text, sizeof own.text));
     ANSWERS(LAPD_WRONG_LENGTH, lapd_frame_text(octets, 3, LAPD_USER, own.text, 4));
     ANSWERS(LAPD_BAD_SIDE, lapd_frame_text(octets, 3, 3, own.text, sizeof own.text));

@@ -7,8 +7,8 @@
 //! - `statuses`: what a call answers: refusals, wrong calls, fields of a configuration.
 //! - `config`: the configuration.
 //! - `timers`: timers and orders, there and back.
-//! - `links`: the links of a line, in order; `rooms`: how much room one has; `heads`: how a frame begins; `counters`: what
-//!   was counted of a line, and of a link.
+//! - `links`: the links of a line, in order; `rooms`: how much room one has; `heads`: how a frame begins; `fields`: what one
+//!   says; `counters`: what was counted of a line, and of a link.
 //! - `requests`: what is asked of a line, and `faults`: what a controller tells in place of a frame, from numbers.
 //! - `notes`: notes, and why something was dropped.
 //! - `reports`: the report of an event.
@@ -16,6 +16,7 @@
 mod config;
 mod counters;
 mod faults;
+mod fields;
 mod heads;
 mod links;
 mod notes;
@@ -28,6 +29,7 @@ mod timers;
 pub(crate) use config::{PlainConfig, side_in};
 pub(crate) use counters::{PlainCounters, PlainLinkCounters};
 pub(crate) use faults::fault_in;
+pub(crate) use fields::PlainFields;
 pub(crate) use heads::PlainHead;
 pub(crate) use links::{LINK_PLACES, PlainLink, service_at};
 pub(crate) use reports::PlainReport;
@@ -36,6 +38,6 @@ pub(crate) use rooms::PlainRoom;
 pub(crate) use statuses::{
     BAD_IMAGE, BAD_SIDE, NO_CARD, NO_CLOCK, NO_FRAME, NO_MEMORY, NO_MORE_LINKS, NO_PLACE, NO_TIMER,
     OK, REFUSED_NO_LINK, REFUSED_QUEUE_FULL, SECOND_START, WRONG_CARD, WRONG_LENGTH, WRONG_LINE,
-    WRONG_ORDER, WRONG_TIME, refusal_status,
+    WRONG_ORDER, WRONG_TIME, fault_status, refusal_status,
 };
 pub(crate) use timers::{PlainDue, PlainLengths, PlainOrder, PlainTimer, lengths_of, link_in};

@@ -1,9 +1,9 @@
 //! What a call answers, as a number.
 
 ghost use Rattle.std.specs.Prelude.{◌≡◌, ◌<◌, IfErr};
-ghost use Rattle.lapd_c.specs.{refusal_status, field_status, service_in};
+ghost use Rattle.lapd_c.specs.{refusal_status, fault_status, field_status, service_in};
 
-use lapd_frame::{Refusal, Service};
+use lapd_frame::{ReadFault, Refusal, Service};
 use model_line::Field;
 
 /// The call did what it says.
@@ -67,6 +67,19 @@ pub fn refusal_status(why: Refusal) -> u32
     match why {
         Refusal::WrongSide => 29,
         _ => why as u32,
+    }
+}
+
+/// The status of octets that are no frame: 48 to 51.
+pub fn fault_status(fault: ReadFault) -> u32
+    ensures status { result ≡ fault_status fault }
+    ensures wrong { 10 < result }
+{
+    match fault {
+        ReadFault::Short => 48,
+        ReadFault::BadExtension => 49,
+        ReadFault::Undefined(_) => 50,
+        ReadFault::WrongSize(_) => 51,
     }
 }
 

@@ -68,8 +68,8 @@ impl Entity {
         }
     }
 
-    /// Layer 3 asks for the establishment, in state 4.
-    pub fn establish_in_4(&mut self, terms: &Terms, told: &mut BareReport)
+    // Layer 3 asks for the establishment.
+    pub(crate) fn establish_in_4(&mut self, terms: &Terms, told: &mut BareReport)
         requires { HasRoom 0 1 told.old }
         ensures tells { Tells 0 1 told.old told.new }
         ensures does { (info : List ℕ) → Does terms.now info (row.establish_in_4 terms.now) self.old told.old self.new told.new }

@@ -22,16 +22,24 @@ impl Entity {
         told.released = ALL;
     }
 
-    // The link is established: the numbers become 0, and what was sent goes.
+    // The link is established, and that is counted.
     pub(crate) fn zero_numbers(&mut self, told: &mut BareReport)
         ensures tells { Tells 0 0 told.old told.new }
         ensures does { (terms : Terms) (info : List ℕ) → Does terms info word.zero_numbers self.old told.old self.new told.new }
+    {
+        self.reset_numbers(told);
+        self.counts.establishment();
+    }
+
+    // The numbers become 0, and what was sent goes.
+    pub(crate) fn reset_numbers(&mut self, told: &mut BareReport)
+        ensures tells { Tells 0 0 told.old told.new }
+        ensures does { (terms : Terms) (info : List ℕ) → Does terms info word.reset_numbers self.old told.old self.new told.new }
     {
         told.released = (told.released + self.window.outstanding()).min(ALL);
         self.window = Window::new();
         self.vr = Seq::zero();
         self.again = 0;
-        self.counts.establishment();
     }
 
     // One more I-frame was received in sequence.

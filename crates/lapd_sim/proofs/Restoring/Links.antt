@@ -50,6 +50,7 @@ rests-same t e l u alike within h =
         rejecting = (ap (λ (x : machine.Link). x.rejecting) is ∙ sym same.rejecting) i;
         pending = (ap (λ (x : machine.Link). x.pending) is ∙ sym same.pending) i;
         asked = (ap (λ (x : machine.Link). x.asked) is ∙ sym same.asked) i;
+        owed = (ap (λ (x : machine.Link). x.owed) is ∙ sym same.owed) i;
         repeats = (ap (λ (x : machine.Link). x.repeats) is ∙ sym same.repeats) i;
         running = (ap (λ (x : machine.Link). x.running) is ∙ sym same.running) i;
         waiting = (ap (λ (x : machine.Link). x.waiting) is ∙ sym same.waiting) i;

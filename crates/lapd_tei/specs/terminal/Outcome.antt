@@ -16,4 +16,4 @@ abbrev pub ordered : Terminal → Option Order → Course
 ordered m o = record { now = m; told = record nothing { orders = option_to_list o } }
 
 abbrev pub terminal_of : Inside → Terminal
-terminal_of t = record { places = t.table; number = t.number; procedure = t.procedure; waiting = t.queue }
+terminal_of t = record { reading = t.reading; places = t.table; number = t.number; procedure = t.procedure; waiting = t.queue }

@@ -3,14 +3,15 @@
 ghost use Rattle.std.specs.Prelude.{◌≡◌};
 ghost use Rattle.model_teis.specs.terminal.Messages.{heard_in};
 
-use crate::information::{ENTITY, NO_TEI};
+use crate::information::{ENTITY, NO_TEI, looked_at};
+use lapd_frame::Reading;
 use model_teis::terminal::Heard;
 
 /// Which message the information of a UI frame is.
-pub(crate) fn read(information: &[u8]) -> Option<Heard>
-    ensures { result ≡ heard_in information.now }
+pub(crate) fn read(reading: Reading, information: &[u8]) -> Option<Heard>
+    ensures { result ≡ heard_in reading information.now }
 {
-    let &[entity, high, low, kind, last] = information else {
+    let &[entity, high, low, kind, last] = looked_at(reading, information) else {
         return None;
     };
     if entity != ENTITY || last % 2 != 1 {

@@ -15,7 +15,7 @@ use crate::table::Table;
 use crate::terminal::procedure::stop_of;
 use crate::terminal::queue::Queue;
 use crate::terminal::{heard, messages};
-use lapd_frame::Refusal;
+use lapd_frame::{Reading, Refusal};
 use model_teis::terminal::{Heard, Procedure};
 use std::marker::Model;
 
@@ -26,6 +26,7 @@ use std::marker::Model;
 /// has TEIs is enough, so none is ever lost. No call takes memory.
 #[derive(Drop, Debug)]
 pub struct TerminalTeis {
+    reading: Reading,
     table: Table,
     number: u16,
     procedure: Option<Procedure>,
@@ -47,13 +48,15 @@ impl Model for TerminalTeis {
 
 #[tactic(auto, unfolding(model_teis::specs::terminal::Events::course))]
 impl TerminalTeis {
-    /// TEI management of a line on which no TEI is, with room for `terminals` TEIs, 1 to 8. The reference numbers go on
-    /// from `seed`: two terminals that have one TEI are told apart by them alone, so it is best a random number.
-    pub fn start(terminals: usize, seed: u16) -> TerminalTeis
+    /// TEI management of a line on which no TEI is, with room for `terminals` TEIs, 1 to 8, by the rows of this reading.
+    /// The reference numbers go on from `seed`: two terminals that have one TEI are told apart by them alone, so it is
+    /// best a random number.
+    pub fn start(terminals: usize, seed: u16, reading: Reading) -> TerminalTeis
         requires { 1 ≤ terminals × terminals ≤ 8 }
-        ensures { result ≡ fresh terminals seed }
+        ensures { result ≡ fresh reading terminals seed }
     {
         TerminalTeis {
+            reading,
             table: Table::empty(terminals),
             number: seed,
             procedure: None,
@@ -66,7 +69,7 @@ impl TerminalTeis {
         ensures told { told_of result ≡ told (message information.now) self.old }
         ensures after { self.new ≡ after (message information.now) self.old }
     {
-        match heard::read(information) {
+        match heard::read(self.reading, information) {
             Some(Heard::IdentityAssigned { ri, tei }) => self.assigned(ri, tei),
             Some(Heard::IdentityDenied { ri }) => self.denied(ri),
             Some(Heard::IdentityCheckRequest { tei }) => self.checked(tei),

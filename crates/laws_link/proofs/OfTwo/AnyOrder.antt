@@ -1,7 +1,7 @@
 -- Two ends in state 7 with frames on both ways, none of which is lost: each turn lowers their weight, and in the end all has
 -- arrived.
 use Rattle.laws_link.proofs.Vocabulary.{◌≡◌, ℕ, suc, ◌+◌, ◌≤◌, Bool, true, false, ◌==◌, List, [], ◌∷◌, ◌++◌, length, take, drop, Some, refl, sym, ap, subst, ◌∙◌, ◌⊎◌, inl, inr, append-nil, eq-eqb, true≢false, arith, All, if◌then◌else◌, nat_lt, slice_get, unwrap_or, ltb-true, le-ltb, and_parts, seq, named, Parts, Terms, Link, frame, received, IsInRange, IsSound, Endpoint, with_link, with_sent}
-use Rattle.laws_link.proofs.Vocabulary.{with_first_of, sound-after, HasNothingToSend, load_of, load, weight_at, State, may_send_information}
+use Rattle.laws_link.proofs.Vocabulary.{with_first_of, offer, sound-after, HasNothingToSend, load_of, load, weight_at, State, may_send_information}
 use Rattle.laws_link.proofs.OfTwo.Plain.{plain, plain_end, with_information, with_acknowledgement, information_frame, acknowledgement_frame, gives-information, gives-acknowledgement}
 use Rattle.laws_link.proofs.OfTwo.Halves.{named-number, fits-at, take-one}
 use Rattle.laws_link.proofs.OfTwo.BusyMoves.{takes-one, takes-note, acked, noted}
@@ -97,9 +97,20 @@ pub record Gave (n m n' : Endpoint) : Type 0 where
   pub kept : n'.link.contents ≡ n.link.contents
 
 module _ (n m : Endpoint) (hn : Steady n) (there : Direction n m) (back : Direction m n) where
+  noted-form : may_send_information n.terms (plain n.link) ≡ false → n.link.pending ≡ true
+      → with_sent n ≡ record n { link = with_acknowledgement n.link; way = n.way ++ acknowledgement_frame n.terms n.link ∷ [] }
+  noted-form e p = sends-form n (record n { link = with_acknowledgement n.link; way = acknowledgement_frame n.terms n.link ∷ [] }) hn (gives-acknowledgement false false n e p)
+
+  noted-sound : may_send_information n.terms (plain n.link) ≡ false → n.link.pending ≡ true → IsSound n.terms (with_acknowledgement n.link)
+  noted-sound e p = subst (λ (x : Endpoint). IsSound n.terms x.link) (noted-form e p) (sound-after n.terms hn.ranges offer n.link hn.sound)
+
+  gave-note : n.link.pending ≡ true → IsSound n.terms (with_acknowledgement n.link)
+      → Gave n m (record n { link = with_acknowledgement n.link; way = n.way ++ acknowledgement_frame n.terms n.link ∷ [] })
+  gave-note p sound = grind (arith, load-push, lane-note, lighter-n)
+
   gives-by : (may owed : Bool) → may_send_information n.terms (plain n.link) ≡ may → n.link.pending ≡ owed → (HasNothingToSend n.terms n.link → ⊥) → Gave n m (with_sent n)
   gives-by true owed e p some = grind (arith, and_parts, nat_lt, ltb-true, with_information, information_frame, sends-form, gives-information, load-push, sound-after, lane-information)
-  gives-by false true e p some = grind (arith, with_acknowledgement, acknowledgement_frame, sends-form, gives-acknowledgement, load-push, sound-after, lane-note, lighter-n)
+  gives-by false true e p some = subst (Gave n m) (sym (noted-form e p)) (gave-note p (noted-sound e p))
   gives-by false false e p some = absurd (some (record { waiting = hn.waiting; information = (subst (λ x. may_send_information n.terms x.link ≡ false) (sym (is-steady n hn)) e); pending = p }))
 
   pub gives : (HasNothingToSend n.terms n.link → ⊥) → Gave n m (with_sent n)

@@ -2,7 +2,7 @@
 use Rattle.laws_link.proofs.Vocabulary.{◌≡◌, ◌≢◌, ◌⊎◌, ℕ, ◌+◌, ◌≤◌, ◌&&◌, nat_lt, Bool, true, false, List, Option, None, Some, refl, sym, ap, ◌∙◌, arith, true≢false, eq-eqb, ltb-false, Seq, Control, Information, ReceiveReady, ReceiveNotReady, Reject, ErrorCode, Refusal, State, TeiAssigned, AwaitingEstablishment, AwaitingRelease, Established, TimerRecovery, LinkTimer, T200, T203, ControlFrame}
 use Rattle.laws_link.proofs.Vocabulary.{Terms, Link, Request, Event, Course, Step, begun, ◌then◌, nothing, runs, frame_in_4, frame_in_5, frame_in_6, Leads, then_leads, bit_leads, read_leads, named-within, both_ways, answer, by_number, peer_busy_is, answered, contents_in_7_8, failed, is_final, acknowledged_by_information_in_7, acknowledged_in_7, frame_in_7, unsolicited}
 use Rattle.laws_link.proofs.Vocabulary.{acknowledged_in_8}
-use Rattle.laws_link.proofs.Vocabulary.{frame_in_8, granted, release_in, is_established, offer_among, course, expired_in, frame_in, malformed_in}
+use Rattle.laws_link.proofs.Vocabulary.{Establish, Release, received, frame, frame_in_8, establish_in, granted, release_in, is_established, offer_among, course, expired_in, frame_in, malformed_in}
 use Rattle.laws_link.proofs.OfTwo.Heeding.{words}
 
 -- the terminal is taken for busy, or an I-frame is outstanding
@@ -111,11 +111,16 @@ module _ (t : Terms) (l : Link) (h : Awaits l.state l.running l.peer_busy l.a l.
   expiries : (here : State) → l.state ≡ here → (timer : LinkTimer) → Awaiting (expired_in here timer t (begun l))
   expiries here e timer = grind (arith, before, elsewhere, both_ways, nat_lt, stays-elsewhere, failed-ends)
 
-  releases : (here : State) → Awaiting (release_in here t (begun l))
-  releases here = grind (arith, elsewhere, before)
+  opens : (here : State) → l.state ≡ here → Awaiting (establish_in here t (begun l))
+  opens here e = grind (arith, elsewhere, before, stays-elsewhere)
+
+  releases : (here : State) → l.state ≡ here → Awaiting (release_in here t (begun l))
+  releases here e = grind (arith, elsewhere, before, stays-elsewhere)
 
   grants : (request : Request) → Awaiting (granted t request (begun l))
-  grants request = grind (arith, elsewhere, releases, both_ways)
+  grants Establish = opens l.state refl
+  grants Release = releases l.state refl
+  grants request = grind (arith, elsewhere, both_ways)
 
   asked : (request : Request) (o : Option Refusal) → Awaiting (elim o [ None ↦ granted t request (begun l) | Some _ ↦ begun l ])
   asked request o = grind (arith, grants, before)
@@ -128,4 +133,5 @@ module _ (t : Terms) (l : Link) (h : Awaits l.state l.running l.peer_busy l.a l.
   offers ws = grind (arith, both_ways, one-more)
 
   pub event-awaits : (e : Event) → Awaiting (course t e l)
+  event-awaits (received (frame f)) = frames l.state refl f.address.command f.info f.control
   event-awaits e = grind (arith, frames, malformed, both_ways, expiries, before, asked, offers, elsewhere)

@@ -9,6 +9,9 @@ use Rattle.model_bits.specs.declared.heard.Cause.TheVariants.{Short}
 use Rattle.model_bits.specs.Stream.{frame, overlong, dropped}
 use Rattle.lapd_frame.specs.Grammar.{Parts, other_side, spelling as side_spelling}
 unfoldable use Rattle.lapd_frame.specs.Reading.{reading as side_reading}
+use Rattle.lapd_frame.specs.Readings.{by_reading}
+use Rattle.lapd_frame.specs.declared.readings.Reading.{Reading}
+use Rattle.lapd_frame.specs.declared.readings.Reading.TheVariants.{Profile, AnnexB}
 use Rattle.lapd_frame.specs.Senders.{spelling, named}
 unfoldable use Rattle.lapd_frame.specs.Senders.{exchanged, reading}
 use Rattle.lapd_frame.specs.declared.addresses.Side.{Side}
@@ -33,9 +36,9 @@ use Rattle.laws_wire.proofs.Spelled.{carries}
 use Rattle.laws_order.specs.teis.Bus.{Bus, message_in, is_removal, removes}
 use Rattle.laws_order.specs.teis.Assignments.{CanMeet}
 
--- A message in which the assignment is made.
+-- A message in which the assignment is made, whatever follows its five octets.
 abbrev pub is_assigned : Remembered → List ℕ → Bool
-is_assigned r (entity ∷ high ∷ low ∷ type ∷ last ∷ []) = (entity == 0x0F && last % 2 == 1) && (type == 2 && (256 * high + low == r.ri && (last / 2 == r.tei && nat_le r.tei 126)))
+is_assigned r (entity ∷ high ∷ low ∷ type ∷ last ∷ more) = (entity == 0x0F && last % 2 == 1) && (type == 2 && (256 * high + low == r.ri && (last / 2 == r.tei && nat_le r.tei 126)))
 is_assigned r other = false
 
 -- Frames that are no messages to the terminal.
@@ -171,7 +174,7 @@ assigned-so r (IdentityCheckRequest tei) is = absurd (off-so (15 == 15 && (2 * t
 assigned-so r (IdentityRemove tei) is = absurd (off-so (15 == 15 && (2 * tei + 1) % 2 == 1) is)
 
 pub assigned-few : (r : Remembered) (info : List ℕ) → is_assigned r info ≡ true → nat_le r.tei 126 ≡ true
-assigned-few r (entity ∷ high ∷ low ∷ type ∷ last ∷ []) is =
+assigned-few r (entity ∷ high ∷ low ∷ type ∷ last ∷ more) is =
     let h = and_parts (entity == 0x0F && last % 2 == 1) (type == 2 && (256 * high + low == r.ri && (last / 2 == r.tei && nat_le r.tei 126))) is in
     let j = and_parts (type == 2) (256 * high + low == r.ri && (last / 2 == r.tei && nat_le r.tei 126)) h.1 in
     let k = and_parts (256 * high + low == r.ri) (last / 2 == r.tei && nat_le r.tei 126) j.1 in
@@ -181,4 +184,13 @@ assigned-few r (a ∷ []) is = absurd (true≢false (sym is))
 assigned-few r (a ∷ b ∷ []) is = absurd (true≢false (sym is))
 assigned-few r (a ∷ b ∷ d ∷ []) is = absurd (true≢false (sym is))
 assigned-few r (a ∷ b ∷ d ∷ e ∷ []) is = absurd (true≢false (sym is))
-assigned-few r (a ∷ b ∷ d ∷ e ∷ f ∷ g ∷ more) is = absurd (true≢false (sym is))
+
+-- What is looked at of it makes no other.
+pub looked-assigned : (q : Reading) (r : Remembered) (info : List ℕ) → is_assigned r (by_reading q info (take 5 info)) ≡ true → is_assigned r info ≡ true
+looked-assigned Profile r info is = is
+looked-assigned AnnexB r [] is = is
+looked-assigned AnnexB r (a ∷ []) is = is
+looked-assigned AnnexB r (a ∷ b ∷ []) is = is
+looked-assigned AnnexB r (a ∷ b ∷ d ∷ []) is = is
+looked-assigned AnnexB r (a ∷ b ∷ d ∷ e ∷ []) is = is
+looked-assigned AnnexB r (a ∷ b ∷ d ∷ e ∷ f ∷ more) is = is

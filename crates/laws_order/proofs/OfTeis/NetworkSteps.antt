@@ -1,6 +1,6 @@
 -- What an observer of the network's line knows of its assignments and of the messages that are owed, event by event.
-use Rattle.std.specs.Prelude.{◌≡◌, ℕ, ◌+◌, ◌-◌, ◌*◌, ◌/◌, ◌%◌, ◌==◌, ◌&&◌, ◌||◌, ◌⊎◌, ⊤, not, Bool, true, false, cond, List, [], ◌∷◌, ◌++◌, length, filter, drop, Option, Some, None, nat_lt, nat_le, refl}
-use Rattle.std.specs.List.{list_any, find, range_with_len}
+use Rattle.std.specs.Prelude.{◌≡◌, ℕ, ◌+◌, ◌-◌, ◌*◌, ◌/◌, ◌%◌, ◌==◌, ◌&&◌, ◌||◌, ◌⊎◌, ⊤, not, Bool, true, false, cond, List, [], ◌∷◌, ◌++◌, length, filter, take, drop, Option, Some, None, nat_lt, nat_le, refl}
+use Rattle.std.specs.List.{list_any, find, position, range_with_len}
 use Rattle.std.specs.Option.{option_and_then, option_map_or, unwrap_or}
 use Rattle.std.proofs.lemmas.Grind.{flat_map-append}
 use Rattle.std.proofs.Common.{inl, inr, subst, sym, ap, ◌∙◌, true≢false, append-nil, append_assoc, eq-eqb, eqb-true}
@@ -19,7 +19,7 @@ use Rattle.model_line.specs.declared.config.Config.{Config}
 use Rattle.model_line.specs.Event.{Event, hears, expiry, request, next}
 use Rattle.model_line.specs.Request.{Request, Establish, Release, Data, Unit, Assign, Remove, Check, Disown, AskTei, VerifyTei, SetBusy, ClearBusy, Deactivate, Down}
 use Rattle.laws_trace.specs.LinkFrames.{frame_of}
-use Rattle.laws_trace.specs.Managing.{Managed, Checked, is_on, is_full, comes, owes, gives, asks, requested, is_given, free_tei, checks, is_asked, defers, verified, others, over, leaves, removes, responded, settling, several, ran_out, by_message, by_frame, by_request, by_event, manages, grants}
+use Rattle.laws_trace.specs.Managing.{Managed, Checked, is_on, is_full, comes, owes, gives, asks, requested, is_given, free_tei, checks, is_asked, defers, verified, others, over, leaves, removes, responded, settling, is_one, named_by, several, ran_out, by_message, by_frame, by_request, by_event, manages, grants}
 use Rattle.laws_trace.specs.ManagingTerminal.{is_message, teis_of}
 use Rattle.laws_order.specs.teis.Bus.{assigned_in}
 use Rattle.laws_order.specs.teis.Assignments.{IsIn}
@@ -247,14 +247,19 @@ module _ (w : Managed) (there : (r : Remembered) → IsIn r w.held → is_on r.t
       (either-served check.settles _ _ nothing
       (either-served check.answered _ _ (noted (removes tei w) (Doubled tei ∷ []) (removed-so tei)) (adds-so _ (adds-none w _ refl refl refl refl))))
 
-  several-so : (octets : List ℕ) → Serves (several w octets)
-  several-so octets =
-      either-served _ None
-      (option_and_then (λ (check : Checked). cond (list_any (λ octet. octet / 2 == check.tei) octets) (responded check.tei w check) None) w.check) nothing (of w.check)
+  named-so : (teis : List ℕ) → Serves (named_by w teis)
+  named-so teis = of w.check
     where
-      of : (o : Option Checked) → Serves (option_and_then (λ (check : Checked). cond (list_any (λ octet. octet / 2 == check.tei) octets) (responded check.tei w check) None) o)
+      of : (o : Option Checked) → Serves (option_and_then (λ (check : Checked). cond (list_any (λ octet. octet / 2 == check.tei) teis) (responded check.tei w check) None) o)
       of None = nothing
-      of (Some check) = either-served (list_any (λ octet. octet / 2 == check.tei) octets) _ _ (responded-so check.tei check) nothing
+      of (Some check) = either-served (list_any (λ octet. octet / 2 == check.tei) teis) _ _ (responded-so check.tei check) nothing
+
+  several-so : (octets : List ℕ) → Serves (several w octets)
+  several-so octets = up-to (position (λ octet. octet % 2 == 1) octets)
+    where
+      up-to : (o : Option ℕ) → Serves (option_and_then (λ place. cond (nat_lt place 64) (named_by w (take (place + 1) octets)) None) o)
+      up-to None = nothing
+      up-to (Some place) = either-served (nat_lt place 64) _ _ (named-so (take (place + 1) octets)) nothing
 
   requested-so : (c : Config) (ri tei : ℕ) → Serves (requested c ri tei w)
   requested-so c ri tei =
@@ -270,20 +275,21 @@ module _ (w : Managed) (there : (r : Remembered) → IsIn r w.held → is_on r.t
       of (Some check) = either-served (check.tei == tei) _ _ nothing (served-as c.reading _ _ nothing (adds-so _ (adds-defers tei w)))
 
   message-so : (c : Config) (info : List ℕ) → Serves (by_message c w info)
-  message-so c (entity ∷ high ∷ low ∷ type ∷ last ∷ []) =
-      either-served (not (entity == 0x0F && last % 2 == 1)) _ _ nothing
-      (either-served (type == 1) _ _ (requested-so c (256 * high + low) (last / 2))
-      (either-served (type == 5) _ _ (answered w.check) (either-served (type == 7) _ _ (verified-so c (last / 2)) nothing)))
+  message-so c (entity ∷ high ∷ low ∷ type ∷ action ∷ more) =
+      either-served (not (entity == 0x0F)) _ _ nothing
+      (either-served (is_one c action more) _ _
+      (either-served (type == 1) _ _ (requested-so c (256 * high + low) (action / 2))
+      (either-served (type == 5) _ _ (answered w.check) (either-served (type == 7) _ _ (verified-so c (action / 2)) nothing)))
+      (either-served (type == 5) _ _ (served-as c.reading _ _ nothing (several-so (action ∷ more))) nothing))
     where
-      answered : (o : Option Checked) → Serves (option_and_then (responded (last / 2) w) o)
+      answered : (o : Option Checked) → Serves (option_and_then (responded (action / 2) w) o)
       answered None = nothing
-      answered (Some check) = responded-so (last / 2) check
+      answered (Some check) = responded-so (action / 2) check
   message-so c [] = nothing
   message-so c (a ∷ []) = nothing
   message-so c (a ∷ b ∷ []) = nothing
   message-so c (a ∷ b ∷ d ∷ []) = nothing
-  message-so c (a ∷ b ∷ d ∷ e ∷ []) = either-served (a == 0x0F && e == 5) _ _ (served-as c.reading _ _ nothing (several-so [])) nothing
-  message-so c (a ∷ b ∷ d ∷ e ∷ f ∷ g ∷ more) = either-served (a == 0x0F && e == 5) _ _ (served-as c.reading _ _ nothing (several-so (f ∷ g ∷ more))) nothing
+  message-so c (a ∷ b ∷ d ∷ e ∷ []) = nothing
 
   frame-so : (c : Config) (o : Option Parts) → Changes w (option_map_or (by_frame c w) o w)
   frame-so c None = nothing

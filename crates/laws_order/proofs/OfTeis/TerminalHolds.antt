@@ -155,7 +155,7 @@ module _ (b : Bus) (can : CanMeet b) (n : Network) (t : Terminal) where
       k = own_of b.terminal t.teis
 
       v : OfTerminal
-      v = unwrap_or (by_message (message_in b.terminal x) k) k
+      v = unwrap_or (by_message b.terminal (message_in b.terminal x) k) k
 
       u-is : u e h.own ≡ v
       u-is = ap (λ o. unwrap_or o k) (frame-is k refl b.terminal x)
@@ -169,7 +169,7 @@ module _ (b : Bus) (can : CanMeet b) (n : Network) (t : Terminal) where
               ∙ ap (λ xs. list_any (λ on. on == r.tei) xs) (sym (due-so b.terminal can.own t.teis h.own e).on) ∙ on
 
           either : (removal b r.tei x ≡ true) ⊎ (list_any (removal b r.tei) (more ++ texts b n.teis.owed) ≡ true) → list_any (removal b r.tei) (more ++ texts b n.teis.owed) ≡ true
-          either (inl is) = absurd (true≢false (sym still-on ∙ removal-takes-off k refl r.tei (message_in b.terminal x) few is))
+          either (inl is) = absurd (true≢false (sym still-on ∙ removal-takes-off k refl b.terminal r.tei (message_in b.terminal x) few is))
           either (inr is) = is
 
           each : IsIn r n.hold ⊎ ((list_any (removal b r.tei) ((x ∷ more) ++ texts b n.teis.owed) ≡ true) ⊎ IsIn r missed)
@@ -181,5 +181,5 @@ module _ (b : Bus) (can : CanMeet b) (n : Network) (t : Terminal) where
       go : (r : Remembered) → is_on r.tei (due b.terminal e t.teis) ≡ true → IsIn r t.given ⊎ IsIn r (takes k (u e h.own)) → (nat_le r.tei 126 ≡ true) × IsCovered b (known n missed) r (more ++ texts b n.teis.owed)
       go r on (inl is) = let was = h.given r is in (was.0, stays r on was.0 was.1)
       go r on (inr is) =
-          let so = message-takes k refl (message_in b.terminal x) r (subst (λ o. IsIn r (takes k o)) u-is is) in
+          let so = message-takes k refl b.terminal (message_in b.terminal x) r (subst (λ o. IsIn r (takes k o)) u-is is) in
           (assigned-few r (message_in b.terminal x) so, h.way_is.0 r so)

@@ -1,10 +1,13 @@
 -- What an observer of the terminal's line knows of the TEIs that it was assigned, event by event.
-use Rattle.std.specs.Prelude.{◌≡◌, ℕ, ◌+◌, ◌*◌, ◌/◌, ◌%◌, ◌==◌, ◌&&◌, ◌||◌, not, Bool, true, false, cond, List, [], ◌∷◌, ◌++◌, flat_map, Option, Some, None, nat_le, nat_lt, refl}
+use Rattle.std.specs.Prelude.{◌≡◌, ℕ, ◌+◌, ◌*◌, ◌/◌, ◌%◌, ◌==◌, ◌&&◌, ◌||◌, not, Bool, true, false, cond, List, [], ◌∷◌, ◌++◌, flat_map, take, Option, Some, None, nat_le, nat_lt, refl}
 use Rattle.std.specs.List.{list_any}
 use Rattle.std.specs.Option.{option_map_or, option_and_then, unwrap_or}
 use Rattle.std.proofs.Common.{inl, inr, subst, sym, ap, ◌∙◌, arith, true≢false, eq-eqb, eqb-true}
 use Rattle.std.proofs.lemmas.Bool.{and_parts}
 use Rattle.lapd_frame.specs.Grammar.{Parts}
+use Rattle.lapd_frame.specs.Readings.{by_reading}
+use Rattle.lapd_frame.specs.declared.readings.Reading.{Reading}
+use Rattle.lapd_frame.specs.declared.readings.Reading.TheVariants.{Profile, AnnexB}
 use Rattle.lapd_frame.specs.declared.notes.Note.{Note}
 use Rattle.lapd_frame.specs.declared.notes.Note.TheVariants.{Assigned, Denied, Unassigned}
 use Rattle.lapd_frame.specs.declared.timers.Timer.TheVariants.{T200, T201, T202, T203}
@@ -19,11 +22,11 @@ use Rattle.model_line.specs.Request.{Request, Establish, Release, Data, Unit, As
 use Rattle.laws_trace.specs.LinkFrames.{frame_of}
 use Rattle.laws_trace.specs.Managing as managing
 use Rattle.laws_trace.specs.Managing.{Managed, due, at_terminal, of_terminal, own_of, nothing_due}
-use Rattle.laws_trace.specs.ManagingTerminal.{OfTerminal, teis_of, without_tei, with_tei, is_on, is_free, is_message, named, verifies, over, asks, leaves, removed, verified, by_assigned, by_denied, by_check, by_remove, by_message, by_frame, by_request, by_event, ran_out, grants}
+use Rattle.laws_trace.specs.ManagingTerminal.{OfTerminal, teis_of, without_tei, with_tei, is_on, is_free, is_message, named, verifies, over, asks, leaves, removed, verified, by_assigned, by_denied, by_check, by_remove, by_five, by_message, by_frame, by_request, by_event, ran_out, grants}
 use Rattle.laws_trace.proofs.AskingSteps.{answers-same, verified-same}
 use Rattle.laws_order.specs.teis.Bus.{message_in, is_removal, is_heard}
 use Rattle.laws_order.specs.teis.Assignments.{IsIn, taken_by}
-use Rattle.laws_order.proofs.OfTeis.Frames.{is_assigned}
+use Rattle.laws_order.proofs.OfTeis.Frames.{is_assigned, looked-assigned}
 
 -- What is taken by what is told.
 abbrev pub takes : OfTerminal → OfTerminal → List Remembered
@@ -48,10 +51,13 @@ module _ (t : OfTerminal) (quiet : t.notes ≡ []) where
   stays : (info : List ℕ) → Takes t info t
   stays info = nothing info t (none-taken t quiet)
 
-  abbrev may_come : ℕ → Bool
-  may_come tei = nat_le 64 tei && nat_le tei 126 && not (is_on tei t) && list_any is_free t.places
+  abbrev lowest : Config → ℕ
+  lowest c = by_reading c.reading 64 0
 
-  module _ (entity high low last : ℕ) (whole : (entity == 0x0F && last % 2 == 1) ≡ true) where
+  abbrev may_come : Config → ℕ → Bool
+  may_come c tei = nat_le (lowest c) tei && nat_le tei 126 && not (is_on tei t) && list_any is_free t.places
+
+  module _ (c : Config) (entity high low last : ℕ) (whole : (entity == 0x0F && last % 2 == 1) ≡ true) where
     abbrev its_info : List ℕ
     its_info = entity ∷ high ∷ low ∷ 2 ∷ last ∷ []
 
@@ -61,26 +67,26 @@ module _ (t : OfTerminal) (quiet : t.notes ≡ []) where
     abbrev its_tei : ℕ
     its_tei = last / 2
 
-    assigned : (p : Option Procedure) → t.procedure ≡ p → Takes t its_info (then_ (by_assigned its_ri its_tei p t))
+    assigned : (p : Option Procedure) → t.procedure ≡ p → Takes t its_info (then_ (by_assigned c its_ri its_tei p t))
     assigned None is = go (is_on its_tei t)
       where
         go : (x : Bool) → Takes t its_info (then_ (cond x (Some (verifies its_tei 1 t)) None))
         go true = nothing its_info (verifies its_tei 1 t) (none-taken (verifies its_tei 1 t) quiet)
         go false = stays its_info
     assigned (Some (Verifying on n)) is = stays its_info
-    assigned (Some (Asking own n)) is = go (own == its_ri && may_come its_tei) refl
+    assigned (Some (Asking own n)) is = go (own == its_ri && may_come c its_tei) refl
       where
-        fits : (own == its_ri && may_come its_tei) ≡ true → is_assigned (record { ri = own; tei = its_tei }) its_info ≡ true
+        fits : (own == its_ri && may_come c its_tei) ≡ true → is_assigned (record { ri = own; tei = its_tei }) its_info ≡ true
         fits h =
-            let parts = and_parts (own == its_ri) (may_come its_tei) h in
-            let most = and_parts ((nat_le 64 its_tei && nat_le its_tei 126) && not (is_on its_tei t)) (list_any is_free t.places) parts.1 in
-            let within = (and_parts (nat_le 64 its_tei) (nat_le its_tei 126) (and_parts (nat_le 64 its_tei && nat_le its_tei 126) (not (is_on its_tei t)) most.0).0).1 in
+            let parts = and_parts (own == its_ri) (may_come c its_tei) h in
+            let most = and_parts ((nat_le (lowest c) its_tei && nat_le its_tei 126) && not (is_on its_tei t)) (list_any is_free t.places) parts.1 in
+            let within = (and_parts (nat_le (lowest c) its_tei) (nat_le its_tei 126) (and_parts (nat_le (lowest c) its_tei && nat_le its_tei 126) (not (is_on its_tei t)) most.0).0).1 in
             let same = eq-eqb its_ri own (sym (eqb-true own its_ri parts.0)) in
             ap (λ x. x && (256 * high + low == own && (last / 2 == its_tei && nat_le its_tei 126))) whole
             ∙ ap (λ x. x && (last / 2 == its_tei && nat_le its_tei 126)) same
             ∙ ap (λ x. x && nat_le its_tei 126) (eq-eqb (last / 2) its_tei refl) ∙ within
 
-        go : (x : Bool) → (own == its_ri && may_come its_tei) ≡ x → Takes t its_info (then_ (cond x (Some (record (over t) { places = with_tei its_tei t.places; notes = Assigned its_tei ∷ [] })) None))
+        go : (x : Bool) → (own == its_ri && may_come c its_tei) ≡ x → Takes t its_info (then_ (cond x (Some (record (over t) { places = with_tei its_tei t.places; notes = Assigned its_tei ∷ [] })) None))
         go false h r is_in = stays its_info r is_in
         go true h r is_in = taken-so (subst (λ p. IsIn r (taken_by (Assigned its_tei) p ++ [])) is is_in)
           where
@@ -115,22 +121,25 @@ module _ (t : OfTerminal) (quiet : t.notes ≡ []) where
   whole-so true h = refl
   whole-so false h = absurd (true≢false h)
 
-  pub message-takes : (info : List ℕ) → Takes t info (then_ (by_message info t))
-  message-takes (entity ∷ high ∷ low ∷ type ∷ last ∷ []) =
+  five-takes : (c : Config) (info : List ℕ) → Takes t info (then_ (by_five c info t))
+  five-takes c (entity ∷ high ∷ low ∷ type ∷ last ∷ []) =
       let info = entity ∷ high ∷ low ∷ type ∷ last ∷ [] in
       either info (not (entity == 0x0F && last % 2 == 1)) _ _ (λ h. stays info)
       (λ h. either info (type == 2) _ _
-      (λ two. subst (λ n. Takes t (entity ∷ high ∷ low ∷ n ∷ last ∷ []) (then_ (by_assigned (256 * high + low) (last / 2) t.procedure t))) (sym (eqb-true type 2 two))
-      (assigned entity high low last (whole-so (entity == 0x0F && last % 2 == 1) h) t.procedure refl))
+      (λ two. subst (λ n. Takes t (entity ∷ high ∷ low ∷ n ∷ last ∷ []) (then_ (by_assigned c (256 * high + low) (last / 2) t.procedure t))) (sym (eqb-true type 2 two))
+      (assigned c entity high low last (whole-so (entity == 0x0F && last % 2 == 1) h) t.procedure refl))
       (λ h. either info (type == 3 && last / 2 == 127) _ _ (λ h. denied info (256 * high + low) t.procedure)
       (λ h. either info (type == 4) _ _ (λ h. checked info (named (last / 2) t))
       (λ h. either info (type == 6) _ _ (λ h. removes info (named (last / 2) t)) (λ h. stays info)))))
-  message-takes [] = stays []
-  message-takes (a ∷ []) = stays (a ∷ [])
-  message-takes (a ∷ b ∷ []) = stays (a ∷ b ∷ [])
-  message-takes (a ∷ b ∷ d ∷ []) = stays (a ∷ b ∷ d ∷ [])
-  message-takes (a ∷ b ∷ d ∷ e ∷ []) = stays (a ∷ b ∷ d ∷ e ∷ [])
-  message-takes (a ∷ b ∷ d ∷ e ∷ f ∷ g ∷ more) = stays (a ∷ b ∷ d ∷ e ∷ f ∷ g ∷ more)
+  five-takes c [] = stays []
+  five-takes c (a ∷ []) = stays (a ∷ [])
+  five-takes c (a ∷ b ∷ []) = stays (a ∷ b ∷ [])
+  five-takes c (a ∷ b ∷ d ∷ []) = stays (a ∷ b ∷ d ∷ [])
+  five-takes c (a ∷ b ∷ d ∷ e ∷ []) = stays (a ∷ b ∷ d ∷ e ∷ [])
+  five-takes c (a ∷ b ∷ d ∷ e ∷ f ∷ g ∷ more) = stays (a ∷ b ∷ d ∷ e ∷ f ∷ g ∷ more)
+
+  pub message-takes : (c : Config) (info : List ℕ) → Takes t info (then_ (by_message c info t))
+  message-takes c info r is = looked-assigned c.reading r info (five-takes c (by_reading c.reading info (take 5 info)) r is)
 
   -- A removal takes the TEI off.
   off : (tei : ℕ) (places : List (Option ℕ)) → list_any (λ on. on == tei) (teis_of (without_tei tei places)) ≡ false
@@ -153,8 +162,13 @@ module _ (t : OfTerminal) (quiet : t.notes ≡ []) where
   below : (tei : ℕ) → nat_le tei 126 ≡ true → (tei == 127) ≡ false
   below tei few = grind (arith, nat_le)
 
-  pub removal-takes-off : (tei : ℕ) (info : List ℕ) → nat_le tei 126 ≡ true → is_removal tei info ≡ true → is_on tei (then_ (by_message info t)) ≡ false
-  removal-takes-off tei (entity ∷ high ∷ low ∷ type ∷ last ∷ []) few is =
+  -- both readings look at all five octets
+  looks : (r : Reading) (a b d e f : ℕ) → by_reading r (a ∷ b ∷ d ∷ e ∷ f ∷ []) (take 5 (a ∷ b ∷ d ∷ e ∷ f ∷ [])) ≡ a ∷ b ∷ d ∷ e ∷ f ∷ []
+  looks Profile a b d e f = refl
+  looks AnnexB a b d e f = refl
+
+  pub removal-takes-off : (c : Config) (tei : ℕ) (info : List ℕ) → nat_le tei 126 ≡ true → is_removal tei info ≡ true → is_on tei (then_ (by_message c info t)) ≡ false
+  removal-takes-off c tei (entity ∷ high ∷ low ∷ type ∷ last ∷ []) few is =
       let g = and_parts (entity == 0x0F && type == 6) (last == 2 * tei + 1) is in
       let h = and_parts (entity == 0x0F) (type == 6) g.0 in
       let entity_is : entity ≡ 0x0F = eqb-true entity 0x0F h.0 in
@@ -162,29 +176,34 @@ module _ (t : OfTerminal) (quiet : t.notes ≡ []) where
       let last_is : last ≡ 2 * tei + 1 = eqb-true last (2 * tei + 1) g.1 in
       let half : last / 2 ≡ tei = omega (arith, last_is) in
       let odd : (last % 2 == 1) ≡ true = eq-eqb (last % 2) 1 (omega (arith, last_is)) in
-      ap (λ n. is_on tei (then_ (by_message (n ∷ high ∷ low ∷ type ∷ last ∷ []) t))) entity_is
-      ∙ ap (λ n. is_on tei (then_ (by_message (0x0F ∷ high ∷ low ∷ n ∷ last ∷ []) t))) type_is
+      ap (λ info. is_on tei (then_ (by_five c info t))) (looks c.reading entity high low type last)
+      ∙ ap (λ n. is_on tei (then_ (by_five c (n ∷ high ∷ low ∷ type ∷ last ∷ []) t))) entity_is
+      ∙ ap (λ n. is_on tei (then_ (by_five c (0x0F ∷ high ∷ low ∷ n ∷ last ∷ []) t))) type_is
       ∙ ap (λ x. is_on tei (then_ (cond (not x) None (by_remove (named (last / 2) t) t)))) odd
       ∙ ap (λ n. is_on tei (then_ (by_remove (named n t) t))) half
       ∙ named-off tei (below tei few)
-  removal-takes-off tei [] few is = absurd (true≢false (sym is))
-  removal-takes-off tei (a ∷ []) few is = absurd (true≢false (sym is))
-  removal-takes-off tei (a ∷ b ∷ []) few is = absurd (true≢false (sym is))
-  removal-takes-off tei (a ∷ b ∷ d ∷ []) few is = absurd (true≢false (sym is))
-  removal-takes-off tei (a ∷ b ∷ d ∷ e ∷ []) few is = absurd (true≢false (sym is))
-  removal-takes-off tei (a ∷ b ∷ d ∷ e ∷ f ∷ g ∷ more) few is = absurd (true≢false (sym is))
+  removal-takes-off c tei [] few is = absurd (true≢false (sym is))
+  removal-takes-off c tei (a ∷ []) few is = absurd (true≢false (sym is))
+  removal-takes-off c tei (a ∷ b ∷ []) few is = absurd (true≢false (sym is))
+  removal-takes-off c tei (a ∷ b ∷ d ∷ []) few is = absurd (true≢false (sym is))
+  removal-takes-off c tei (a ∷ b ∷ d ∷ e ∷ []) few is = absurd (true≢false (sym is))
+  removal-takes-off c tei (a ∷ b ∷ d ∷ e ∷ f ∷ g ∷ more) few is = absurd (true≢false (sym is))
 
   -- A frame is its message.
-  pub frame-is : (c : Config) (octets : List ℕ) → by_event c (hears (came c.n201 octets)) t ≡ by_message (message_in c octets) t
+  pub frame-is : (c : Config) (octets : List ℕ) → by_event c (hears (came c.n201 octets)) t ≡ by_message c (message_in c octets) t
   frame-is c octets = go (frame_of c (came c.n201 octets))
     where
-      go : (o : Option Parts) → option_and_then (by_frame c t) o ≡ by_message (option_map_or (λ (f : Parts). cond (is_message c f && f.address.command) f.info []) o []) t
-      go None = refl
+      none : (r : Reading) → None ≡ by_five c (by_reading r [] (take 5 [])) t
+      none Profile = refl
+      none AnnexB = refl
+
+      go : (o : Option Parts) → option_and_then (by_frame c t) o ≡ by_message c (option_map_or (λ (f : Parts). cond (is_message c f && f.address.command) f.info []) o []) t
+      go None = none c.reading
       go (Some f) = each (is_message c f && f.address.command)
         where
-          each : (x : Bool) → cond x (by_message f.info t) None ≡ by_message (cond x f.info []) t
+          each : (x : Bool) → cond x (by_message c f.info t) None ≡ by_message c (cond x f.info []) t
           each true = refl
-          each false = refl
+          each false = none c.reading
 
   -- Nothing else takes one.
   ran-out-takes : (p : Option Procedure) → takes t (ran_out p t) ≡ []

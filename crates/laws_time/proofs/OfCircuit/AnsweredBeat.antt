@@ -7,7 +7,7 @@ use Rattle.model_link.specs.Machine as links
 use Rattle.model_card.specs.ports.Port as port
 use Rattle.laws_order.specs.circuit.Circuit as circuit
 use Rattle.model_line.specs.Event as line
-use Rattle.laws_time.proofs.OfCircuit.AnsweredEnds.{lost, lost-heard, DueAt, frame-put, due-same, Due, due-moved, text-low, IsKept, IsCalm}
+use Rattle.laws_time.proofs.OfCircuit.AnsweredEnds.{IsAsking, IsExpiring, IsKeptBy, its-sound, lost, lost-heard, DueAt, frame-put, due-same, Due, due-moved, text-low, IsKept, IsCalm}
 use Rattle.laws_time.proofs.OfCircuit.AnsweredRows.{Exchange}
 use Rattle.laws_time.proofs.OfCircuit.Words.{Ends, IsOrdinary, IsOwn, Moved, fine, half, heard-dropped, heard-event, heard-frame, heard-none, its-frame, own-frame, ring, same-received, text_length}
 use Rattle.laws_time.specs.circuit.LongEnough.{is_of}
@@ -55,8 +55,8 @@ module _ (c : Config) (service : Service) (tei : ℕ) (ranged : IsInRange c) (d 
 
       module _ (n : ℕ) (x : Exchange n) (k : Ends c service tei 0 ranged (circuit.happens (port.octet value) s)) where
         -- The answer: the link doesn't wait any more.
-        pub answer-heard : is_of x.answering d octets ≡ true → x.Still h.its.state → state_number k.its.state ≡ n → ⊥
-        answer-heard so still number = x.leaves (terms c service tei) own.0 h.its (kind-of x.answering so) still (ap (λ (l : Link). state_number l.state) (sym (same-state k)) ∙ number)
+        pub answer-heard : is_of x.answering d octets ≡ true → x.Later h.its.state → state_number k.its.state ≡ n → ⊥
+        answer-heard so still number = x.leaves (terms c service tei) own.0 h.its (its-sound c service tei 0 ranged s h) (kind-of x.answering so) still (ap (λ (l : Link). state_number l.state) (sym (same-state k)) ∙ number)
 
         -- The command: it is answered, if the answer isn't lost, and, if it is an enquiry, the link is up.
         pub command-heard : is_of x.asking d octets ≡ true → (n ≡ 8 → is_multiple_frame k.its.state ≡ true) → lost (circuit.happens (port.octet value) s) ≤ lost s
@@ -243,12 +243,26 @@ module _ (c : Config) (service : Service) (tei : ℕ) (ranged : IsInRange c) (le
     asks-kept given soon late s u h may mv calm y = asks-moved given soon late s u h may mv (λ e is. calm-ordinary e h.its (calm e is)) (λ e is. (calm e is).1) y
 
     -- What holds as long as it waits.
-    pub still-kept : IsKept c service tei ranged lengths rate (λ p l. x.Still l.state)
-    still-kept s u h may mv calm still = go mv.event refl
+    pub still-asked : IsKeptBy c service tei ranged lengths rate (IsAsking c service tei ranged lengths rate) (λ p l. x.Still l.state)
+    still-asked s u h may mv asking still = go mv.event refl
       where
         link_is : (v : Option LinkEvent) → mv.event ≡ v → option_map_or (λ e. links.after (terms c service tei) e h.its) v h.its ≡ mv.ends.its
         link_is v e = sym (mv.link_is ∙ ap (λ v. option_map_or (λ e. links.after (terms c service tei) e h.its) v h.its) e)
 
         go : (v : Option LinkEvent) → mv.event ≡ v → x.Still mv.ends.its.state
         go None e = subst (λ (l : Link). x.Still l.state) (link_is None e) still
-        go (Some z) e = subst (λ (l : Link). x.Still l.state) (link_is (Some z) e) (x.still_own (terms c service tei) z h.its (calm z e).0 still)
+        go (Some z) e =
+            let own = asking z e in
+            subst (λ (l : Link). x.Still l.state) (ap (λ e. links.after (terms c service tei) e h.its) (sym own.1) ∙ link_is (Some z) e) (x.still_asked (terms c service tei) own.0 h.its still)
+
+    pub later-expired : IsKeptBy c service tei ranged lengths rate (IsExpiring c service tei ranged lengths rate) (λ p l. x.Later l.state)
+    later-expired s u h may mv expiring later = go mv.event refl
+      where
+        link_is : (v : Option LinkEvent) → mv.event ≡ v → option_map_or (λ e. links.after (terms c service tei) e h.its) v h.its ≡ mv.ends.its
+        link_is v e = sym (mv.link_is ∙ ap (λ v. option_map_or (λ e. links.after (terms c service tei) e h.its) v h.its) e)
+
+        go : (v : Option LinkEvent) → mv.event ≡ v → x.Later mv.ends.its.state
+        go None e = subst (λ (l : Link). x.Later l.state) (link_is None e) later
+        go (Some z) e =
+            let own = expiring z e in
+            subst (λ (l : Link). x.Later l.state) (ap (λ e. links.after (terms c service tei) e h.its) (sym own.1) ∙ link_is (Some z) e) (x.later_expired (terms c service tei) own.0 h.its later)

@@ -10,7 +10,7 @@ use Rattle.model_card.specs.ports.Port as port
 use Rattle.laws_wire.specs.Wire as wire
 use Rattle.laws_order.specs.circuit.Circuit as circuit
 use Rattle.model_line.specs.Line.{Line}
-use Rattle.laws_time.proofs.OfCircuit.Words.{Counts, EndOk, Ends, IsOrdinary, Moved, Pulled, Rests, RunsOurs, Took, all-keep, asked-told, at-moment, bare, ends-asked, ends-expired, expired-reply, fine, first-of, half, of-link, of-timer, ring, short-text, text, text-kind, text_length, waiting-then}
+use Rattle.laws_time.proofs.OfCircuit.Words.{Counts, EndOk, Ends, IsOrdinary, Moved, Pulled, Rests, RunsOurs, Took, all-both, all-keep, asked-told, at-moment, bare, ends-asked, ends-expired, expired-reply, fine, first-of, half, of-link, of-timer, ring, short-text, text, text-kind, text_length, waiting-then}
 use Rattle.laws_time.specs.circuit.LongEnough.{is_of}
 use Rattle.laws_time.proofs.OfCircuit.AnsweredRows.{Puts, all-put, IsOwnEvent}
 
@@ -110,7 +110,7 @@ module _ (c : Config) (service : Service) (tei place : ℕ) (ranged : IsInRange 
     own : StationStands s.card.card.config service tei place (as_endpoint [] s) (bare c service tei place ranged h.its)
     own = subst (λ k. StationStands k service tei place (as_endpoint [] s) (bare c service tei place ranged h.its)) (sym h.stands.config) h.stands
 
-    its-sound : LinkIsSound (terms c service tei) h.its
+    pub its-sound : LinkIsSound (terms c service tei) h.its
     its-sound = link-sound service tei place (as_endpoint [] s) (bare c service tei place ranged h.its) own
 
     -- What is told as a timer expires.
@@ -224,6 +224,18 @@ module _ (c : Config) (service : Service) (tei : ℕ) (ranged : IsInRange c) (le
       (s u : OctetEndpoint) (h : EndsAt s) (may : LinkEvent → Type 0) (mv : Moved c service tei 0 ranged s u h may) → ((e : LinkEvent) → mv.event ≡ Some e → IsCalm e h.its)
       → D (port_of s) h.its → D (port_of u) mv.ends.its
 
+  -- The same, of requests alone, and of expiries alone.
+  abbrev pub IsAsking : LinkEvent → Type 0
+  IsAsking e = (r : link.Request) × (e ≡ link.requested r false)
+
+  abbrev pub IsExpiring : LinkEvent → Type 0
+  IsExpiring e = (timer : LinkTimer) × (e ≡ link.expired timer)
+
+  abbrev pub IsKeptBy : (LinkEvent → Type 0) → (Port → Link → Type 0) → Type 1
+  IsKeptBy K D =
+      (s u : OctetEndpoint) (h : EndsAt s) (may : LinkEvent → Type 0) (mv : Moved c service tei 0 ranged s u h may) → ((e : LinkEvent) → mv.event ≡ Some e → K e)
+      → D (port_of s) h.its → D (port_of u) mv.ends.its
+
   module _ (D : Port → Link → Type 0) (base : ℕ) where
     abbrev pub Kept : (s : OctetEndpoint) → EndsAt s → Type 0
     Kept s h = (base ≤ lost s) × (lost s ≤ base → D (port_of s) h.its)
@@ -267,3 +279,33 @@ module _ (c : Config) (service : Service) (tei : ℕ) (ranged : IsInRange c) (le
             let y = of-timer service tei e.timer (first-of (RunsOurs service tei) u.clock.running u.clock.now e ok.but.ours is) in
             let then = expired-kept u.at ok.but.ends (kept ok.but.ends) e.timer y.0 y.1 in kept-same (falls u e).at then.0 k then.1)
             S M moment rs all a ok (omega (arith, given, soon)) (λ k. kept-same a.at h.but.ends k x)).1 k
+
+  -- What requests keep, and what expiries keep after them.
+  module _ (D R : Port → Link → Type 0) (less : (p : Port) (l : Link) → D p l → R p l) (on : IsKeptBy IsAsking D) (later : IsKeptBy IsExpiring R) (transit moment n S M : ℕ) (rs : List Request) (a : TimedEndpoint)
+      (h : EndAt S M a) (rests : Rests a) (low : a.clock.now ≤ moment) (high : moment ≤ a.clock.now + 1) (counts : Counts service tei transit lengths rate c ranged n a)
+      (soon : n + 1 ≤ (moment + 1) * rate) (all : All (IsOfLink service tei) rs) where
+    abbrev OfD : (s : OctetEndpoint) → EndsAt s → Type 0
+    OfD s k = D (port_of s) k.its
+
+    abbrev OfR : (s : OctetEndpoint) → EndsAt s → Type 0
+    OfR s k = R (port_of s) k.its
+
+    same-d : (s : OctetEndpoint) (h k : EndsAt s) → OfD s h → OfD s k
+    same-d s h k x = subst (D (port_of s)) (its-same c service tei 0 ranged s h k) x
+
+    same-r : (s : OctetEndpoint) (h k : EndsAt s) → OfR s h → OfR s k
+    same-r s h k x = subst (R (port_of s)) (its-same c service tei 0 ranged s h k) x
+
+    pub comes-by : OfD a.at h.but.ends → (k : EndsAt (comes_to moment rs a).at) → OfR (comes_to moment rs a).at k
+    comes-by x k =
+        let ok = at-moment service tei transit lengths rate c ranged moment n S M rs a h rests low high counts soon all in let given = counts.given in
+        (all-both c service tei 0 ranged lengths rate (λ u. (k : EndsAt u.at) → OfD u.at k) (λ u. (k : EndsAt u.at) → OfR u.at k) (IsOfLink service tei) (λ r is. is)
+        (λ r u S M ok g is kept k.
+        let y = of-link service tei r is in let mv = ends-asked c service tei 0 ranged u.at ok.but.ends r y.0 y.1 y.2 in
+        same-d (asks u r).at mv.ends k (on u.at (circuit.happens (port.request r) u.at) ok.but.ends (λ e. e ≡ link.requested y.0 false) mv (λ e is. (y.0, mv.by e is)) (kept ok.but.ends)))
+        (λ u kept k. less (port_of u.at) k.its (kept k))
+        (λ e u S M ok g is kept k.
+        let y = of-timer service tei e.timer (first-of (RunsOurs service tei) u.clock.running u.clock.now e ok.but.ours is) in
+        let mv = ends-expired c service tei 0 ranged u.at ok.but.ends e.timer y.0 y.1 in
+        same-r (falls u e).at mv.ends k (later u.at (circuit.happens (port.expiry e.timer) u.at) ok.but.ends (λ e. e ≡ link.expired y.0) mv (λ e is. (y.0, mv.by e is)) (kept ok.but.ends)))
+        S M moment rs all a ok (omega (arith, given, soon)) (λ k. same-d a.at h.but.ends k x)).1 k

@@ -3,6 +3,7 @@ use Rattle.laws_time.proofs.Vocabulary.{AwaitingEstablishment, Bool, Control, Co
 use Rattle.laws_time.proofs.Vocabulary.{is_multiple_frame, is_overlong, length, link_after as after, offer, overlong, put, receipt_as, received, refl, requested, room, state_after, state_number, subst, suc, sym, take, to_disc, to_sabme, told, true, true≢false, zero, ℕ, ◌&&◌, ◌++◌, ◌∙◌, ◌∷◌, ◌≡◌, ◌≤◌, ◌⊎◌}
 use Rattle.lapd_frame.specs.declared.readings.Reading.{Reading}
 use Rattle.model_link.specs.Events.{Request, frame}
+use Rattle.model_link.specs.Sound.{IsSound}
 use Rattle.laws_link.specs.States.{by_frame, by_expiry}
 
 -- A supervisory command with P=1 enquires, and such a response with F=1 replies.
@@ -49,14 +50,11 @@ IsOwnEvent e = ((r : Request) × (e ≡ requested r false)) ⊎ ((timer : LinkTi
 down-is : (state : State) → state_number state ≡ 5 → is_multiple_frame state ≡ false
 down-is state is = grind arith
 
-framed-8 : (r : Reading) (state : State) (command : Bool) (control : Control) → state_number (by_frame r state command control) ≡ 8 → state_number state ≡ 8
-framed-8 r state command control is = grind arith
+framed-8 : (r : Reading) (owed : Bool) (state : State) (command : Bool) (control : Control) → state_number (by_frame r owed state command control) ≡ 8 → state_number state ≡ 8
+framed-8 r owed state command control is = grind arith
 
-framed-6 : (r : Reading) (state : State) (command : Bool) (control : Control) → state_number (by_frame r state command control) ≡ 6 → state_number state ≡ 6
-framed-6 r state command control is = grind arith
-
-not-five : (n : ℕ) → (n ≡ 8) ⊎ (n ≡ 6) → n ≡ 5 → ⊥
-not-five n h1z h2z = grind arith
+not-five : ◌≡◌ {A = ℕ} 8 5 → ⊥
+not-five is = omega (arith, is)
 
 module _ (t : Terms) where
   pub leads : (e : Event) (l : Link) → (after t e l).state ≡ state_after t (as_heard t e) l
@@ -89,8 +87,8 @@ module _ (t : Terms) where
   pub offer-stays : (l : Link) → (after t offer l).state ≡ l.state
   offer-stays l = leads offer l
 
-  -- No frame leads to state 8, nor to state 6.
-  module _ (n : ℕ) (other : n ≡ 5 → ⊥) (framed : (state : State) (command : Bool) (control : Control) → state_number (by_frame t.reading state command control) ≡ n → state_number state ≡ n) where
+  -- No frame leads to state 8.
+  module _ (n : ℕ) (other : n ≡ 5 → ⊥) (framed : (owed : Bool) (state : State) (command : Bool) (control : Control) → state_number (by_frame t.reading owed state command control) ≡ n → state_number state ≡ n) where
     received-stays : (r : Received) (l : Link) → state_number (state_after t (received r) l) ≡ n → state_number l.state ≡ n
     received-stays r l is = grind arith
 
@@ -154,21 +152,31 @@ module _ (t : Terms) where
   not-long : (command : Bool) (control : Control) (info : List ℕ) → replies command control ≡ true → is_overlong t control info ≡ false
   not-long command control info is = grind arith
 
-  moved-on : (state : State) (command : Bool) (control : Control) → replies command control ≡ true → state_number (by_frame t.reading state command control) ≡ 8 → ⊥
-  moved-on state command control is number = grind arith
+  moved-on : (owed : Bool) (state : State) (command : Bool) (control : Control) → replies command control ≡ true → state_number (by_frame t.reading owed state command control) ≡ 8 → ⊥
+  moved-on owed state command control is number = grind arith
 
   reply-leaves : (f : Parts) (l : Link) → replies f.address.command f.control ≡ true → state_number (after t (received (frame f)) l).state ≡ 8 → ⊥
   reply-leaves f l is number =
       go (is_multiple_frame l.state && is_faulty (frame f) l)
       (ap state_number (ap (λ b. state_after t (received (cond b overlong (frame f))) l) (sym (not-long f.address.command f.control f.info is)) ∙ sym (leads (received (frame f)) l)) ∙ number)
     where
-      go : (b : Bool) → state_number (cond b AwaitingEstablishment (by_frame t.reading l.state f.address.command f.control)) ≡ 8 → ⊥
+      go : (b : Bool) → state_number (cond b AwaitingEstablishment (by_frame t.reading l.owed l.state f.address.command f.control)) ≡ 8 → ⊥
       go true number = cc number
-      go false number = moved-on l.state f.address.command f.control is number
+      go false number = moved-on l.owed l.state f.address.command f.control is number
 
-  -- UA and DM with F=1 leave no link in state 6, nor, unless it was in state 8, in state 5.
-  agreement-6 : (f : Parts) (l : Link) → agrees f.address.command f.control ≡ true → state_number (after t (received (frame f)) l).state ≡ 6 → ⊥
-  agreement-6 f l is number = grind arith
+  -- UA and DM with F=1 leave no link in state 6, unless a release is owed, which is in state 5 alone, by annex B; nor, unless it was
+  -- in state 8, in state 5.
+  none-owed-6 : (f : Parts) (l : Link) → l.owed ≡ false → agrees f.address.command f.control ≡ true → state_number (after t (received (frame f)) l).state ≡ 6 → ⊥
+  none-owed-6 f l none is number = grind arith
+
+  agreement-6 : (f : Parts) (l : Link) → IsSound t l → agrees f.address.command f.control ≡ true → (state_number l.state ≡ 6) ⊎ (state_number l.state ≡ 4)
+      → state_number (after t (received (frame f)) l).state ≡ 6 → ⊥
+  agreement-6 f l sound is there number = go l.owed refl there
+    where
+      go : (b : Bool) → l.owed ≡ b → (state_number l.state ≡ 6) ⊎ (state_number l.state ≡ 4) → ⊥
+      go true e (inl at) = let here = ap state_number (sound.owed e).state in omega (arith, here, at)
+      go true e (inr at) = let here = ap state_number (sound.owed e).state in omega (arith, here, at)
+      go false e at = none-owed-6 f l e is number
 
   agreement-5 : (f : Parts) (l : Link) → agrees f.address.command f.control ≡ true → is_multiple_frame l.state ≡ false → state_number (after t (received (frame f)) l).state ≡ 5 → ⊥
   agreement-5 f l is down number = grind arith
@@ -180,6 +188,21 @@ module _ (t : Terms) where
   expired-down : (state : State) (timer : LinkTimer) (again : Bool) → is_multiple_frame state ≡ false → is_multiple_frame (by_expiry state timer again) ≡ false
   expired-down state timer again down = grind arith
 
+  -- In state 6 layer 3 is granted nothing, and an expiry leaves it there or leads to state 4, where none does anything.
+  asked-stays : (state : State) (request : Request) → state_number state ≡ 6 → state_number (by_request state request) ≡ 6
+  asked-stays state request is = grind arith
+
+  expired-ends : (state : State) (timer : LinkTimer) (again : Bool) → (state_number state ≡ 6) ⊎ (state_number state ≡ 4)
+      → (state_number (by_expiry state timer again) ≡ 6) ⊎ (state_number (by_expiry state timer again) ≡ 4)
+  expired-ends state timer again is = grind arith
+
+  asked-6 : (r : Request) (l : Link) → state_number l.state ≡ 6 → state_number (after t (requested r false) l).state ≡ 6
+  asked-6 r l is = grind (arith, asked-stays)
+
+  expired-6 : (timer : LinkTimer) (l : Link) → (state_number l.state ≡ 6) ⊎ (state_number l.state ≡ 4)
+      → (state_number (after t (expired timer) l).state ≡ 6) ⊎ (state_number (after t (expired timer) l).state ≡ 4)
+  expired-6 timer l is = grind (arith, expired-ends)
+
   own-down : (e : Event) (l : Link) → IsOwnEvent e → is_multiple_frame l.state ≡ false → is_multiple_frame (after t e l).state ≡ false
   own-down e l h1z h2z = grind (arith, asked-down, expired-down)
 
@@ -187,30 +210,38 @@ module _ (t : Terms) where
 pub record Exchange (n : ℕ) : Type 1 where
   pub asking : Bool → Control → Bool
   pub answering : Bool → Control → Bool
+  -- as layer 3 asks, and then as timers expire
   pub Still : State → Type 0
+  pub Later : State → Type 0
   pub still_in : (state : State) → state_number state ≡ n → Still state
-  pub still_own : (t : Terms) (e : Event) (l : Link) → IsOwnEvent e → Still l.state → Still (after t e l).state
+  pub still_asked : (t : Terms) (r : Request) (l : Link) → Still l.state → Still (after t (requested r false) l).state
+  pub still_later : (state : State) → Still state → Later state
+  pub later_expired : (t : Terms) (timer : LinkTimer) (l : Link) → Later l.state → Later (after t (expired timer) l).state
   pub puts : (t : Terms) (e : Event) (l : Link) → state_number (after t e l).state ≡ n → (state_number l.state ≡ n → ⊥) → Puts t asking e l
   pub answered : (t : Terms) (f : Parts) (l : Link) → asking f.address.command f.control ≡ true → (n ≡ 8 → is_multiple_frame (after t (received (frame f)) l).state ≡ true) → Puts t answering (received (frame f)) l
   -- by how many octet times later it may be put than at the beginning of a beat: a frame may lead there
   pub late : ℕ
   pub few : late ≤ 1
   pub by_frame : (t : Terms) (f : Parts) (l : Link) → state_number (after t (received (frame f)) l).state ≡ n → (state_number l.state ≡ n) ⊎ (late ≡ 1)
-  pub leaves : (t : Terms) (f : Parts) (l : Link) → answering f.address.command f.control ≡ true → Still l.state → state_number (after t (received (frame f)) l).state ≡ n → ⊥
+  pub leaves : (t : Terms) (f : Parts) (l : Link) → IsSound t l → answering f.address.command f.control ≡ true → Later l.state
+      → state_number (after t (received (frame f)) l).state ≡ n → ⊥
 
 pub enquiry : Exchange 8
 enquiry = record {
   asking = enquires;
   answering = replies;
   Still = λ state. Unit {0};
+  Later = λ state. Unit {0};
   still_in = λ state is. tt;
-  still_own = λ t e l own still. tt;
+  still_asked = λ t r l still. tt;
+  still_later = λ state still. tt;
+  later_expired = λ t timer l still. tt;
   puts = λ t e l is other. comes-in t enquires 8 e l (record { command = true; control = receipt_as l.own_busy l.r true }) (enquires-so l.own_busy l.r) is other (enquiry-in t (after t e l).state l is);
   answered = λ t f l is up. answer-put t f l is (was-up t f l is (up refl));
   late = 0;
   few = omega arith;
-  by_frame = λ t f l is. inl (heard-stays t 8 (not-five 8 (inl refl)) (framed-8 t.reading) f l is);
-  leaves = λ t f l is still number. reply-leaves t f l is number;
+  by_frame = λ t f l is. inl (heard-stays t 8 not-five (framed-8 t.reading) f l is);
+  leaves = λ t f l sound is still number. reply-leaves t f l is number;
 }
 
 pub enquiry-soon : enquiry.late ≡ 0
@@ -222,14 +253,17 @@ establishment = record {
   asking = establishes;
   answering = agrees;
   Still = λ state. is_multiple_frame state ≡ false;
+  Later = λ state. is_multiple_frame state ≡ false;
   still_in = λ state is. down-is state is;
-  still_own = λ t e l own still. own-down t e l own still;
+  still_asked = λ t r l still. own-down t (requested r false) l (inl (r, refl)) still;
+  still_later = λ state still. still;
+  later_expired = λ t timer l still. own-down t (expired timer) l (inr (timer, refl)) still;
   puts = λ t e l is other. comes-in t establishes 5 e l (record { command = true; control = Sabme true }) refl is other (sabme-in t (after t e l).state l is);
   answered = λ t f l is up. agreed-put t f l (sabme-answered t f.address.command f.control f.info l is);
   late = 1;
   few = omega arith;
   by_frame = λ t f l is. inr refl;
-  leaves = λ t f l is still number. agreement-5 t f l is still number;
+  leaves = λ t f l sound is still number. agreement-5 t f l is still number;
 }
 
 pub establishment-asks : establishment.asking ≡ establishes
@@ -240,13 +274,16 @@ pub release : Exchange 6
 release = record {
   asking = ends_link;
   answering = agrees;
-  Still = λ state. Unit {0};
-  still_in = λ state is. tt;
-  still_own = λ t e l own still. tt;
+  Still = λ state. state_number state ≡ 6;
+  Later = λ state. (state_number state ≡ 6) ⊎ (state_number state ≡ 4);
+  still_in = λ state is. is;
+  still_asked = λ t r l still. asked-6 t r l still;
+  still_later = λ state still. inl still;
+  later_expired = λ t timer l still. expired-6 t timer l still;
   puts = λ t e l is other. comes-in t ends_link 6 e l (record { command = true; control = Disc true }) refl is other (disc-in t (after t e l).state l is);
   answered = λ t f l is up. agreed-put t f l (disc-answered t f.address.command f.control f.info l is);
-  late = 0;
+  late = 1;
   few = omega arith;
-  by_frame = λ t f l is. inl (heard-stays t 6 (not-five 6 (inr refl)) (framed-6 t.reading) f l is);
-  leaves = λ t f l is still number. agreement-6 t f l is number;
+  by_frame = λ t f l is. inr refl;
+  leaves = λ t f l sound is still number. agreement-6 t f l sound is still number;
 }

@@ -6,8 +6,8 @@ use Rattle.model_link.specs.Machine as links
 use Rattle.model_card.specs.ports.Port as port
 use Rattle.laws_order.specs.circuit.Circuit as circuit
 use Rattle.laws_time.proofs.OfCircuit.Words.{Ends, Goes, IsOwn, Moved, Pair, Pulled, at_time, far-comes, far-high, far-low, fine, half, near-comes, near-high, near-low, pair-then, pulls, ring, soon, state-here}
-use Rattle.laws_time.proofs.OfCircuit.AnsweredBeat.{DueHere, from-here, to-here, due-kept, asks-moved, asks-kept, still-kept, given-long, way-long, Hears, plain, answer-heard, command-heard, hears-moved}
-use Rattle.laws_time.proofs.OfCircuit.AnsweredEnds.{Due, IsNow, due-heard, due-soon, lost, lost-more, DueAt, due-moved, due-pull, text-low, IsKept, Kept, comes-kept}
+use Rattle.laws_time.proofs.OfCircuit.AnsweredBeat.{DueHere, from-here, to-here, due-kept, asks-moved, asks-kept, still-asked, later-expired, given-long, way-long, Hears, plain, answer-heard, command-heard, hears-moved}
+use Rattle.laws_time.proofs.OfCircuit.AnsweredEnds.{Due, IsNow, due-heard, due-soon, lost, lost-more, DueAt, due-moved, due-pull, text-low, IsKept, Kept, comes-by, comes-kept}
 use Rattle.laws_time.proofs.OfCircuit.AnsweredBits.{one-among, heard-here}
 use Rattle.laws_time.proofs.OfCircuit.AnsweredRows.{Exchange, up-is, offer-stays}
 use Rattle.laws_time.specs.circuit.LongEnough.{is_of}
@@ -202,7 +202,7 @@ module _ (l : Line) (fit : Begins l) (n : ℕ) (x : Exchange n) (start : ℕ) wh
           (λ e. (f : Parts) × (e ≡ link.received (link.frame f))) near_mv (λ e is. plain l.near l.service l.tei fit.call.near.0 l.far fit.call.far.0 l.near.n201 refl (sym fit.call.opposite.1) (sym opposite) e (near_mv.by e is)) later))))
 
       -- The answer is heard: the end waits no more.
-      answer-now : x.Still near2.its.state → IsNow (is_of x.answering l.far) start answered_by l.way w.beats (port_of v.far.at) → ⊥
+      answer-now : x.Later near2.its.state → IsNow (is_of x.answering l.far) start answered_by l.way w.beats (port_of v.far.at) → ⊥
       answer-now still now =
           let g = given-now in let c = way-now in let h = now.0 in
           let it = heard-here l.far.n201 (is_of x.answering l.far) start answered_by l.way w.beats clean (port_of v.far.at) (port_of v.near.at) z.near.value z.near.more
@@ -212,7 +212,7 @@ module _ (l : Line) (fit : Begins l) (n : ℕ) (x : Exchange n) (start : ℕ) wh
           answer-heard l.near l.service l.tei fit.call.near.0 l.far fit.call.far.0 l.near.n201 refl (sym fit.call.opposite.1) (sym opposite) v.near.at near2 z.near.value h.o own
           (ap (λ n. gained n (port_of v.near.at).received z.near.value) fit.call.opposite.1 ∙ it) n x near_mv.ends h.its still (near-state n is_waiting)
 
-      far-after : x.Still near2.its.state → (DueAt l.far l.service l.tei 0 fit.call.far.0 x.answering start answered_by l.way w.beats v.far.at far2) → Stage u
+      far-after : x.Later near2.its.state → (DueAt l.far l.service l.tei 0 fit.call.far.0 x.answering start answered_by l.way w.beats v.far.at far2) → Stage u
       far-after still due = by-either (due-heard (is_of x.answering l.far) start answered_by l.way w.beats (port_of v.far.at) (ring l.far l.service l.tei 0 fit.call.far.0 far2.its) due)
           (λ now. absurd (answer-now still now)) (λ later.
           inr (subst (λ (e : TimedEndpoint). FarDue (w.beats + 1) e.at) (sym far-is)
@@ -248,12 +248,15 @@ module _ (l : Line) (fit : Begins l) (n : ℕ) (x : Exchange n) (start : ℕ) wh
       stage-then was (inr due) =
           let given = far-given in
           let number = same_Some (state_number p.near_ok.but.ends.its.state) n (sym (state-here l.near l.service l.tei 0 fit.call.near.0 l.lengths l.rate w.near.at p.near_ok.but.ends) ∙ was) in
-          let still = near-walk (λ p y. x.Still y.state) base (still-kept l.near l.service l.tei fit.call.near.0 l.lengths l.rate n x start asked_by l.way) y.near_low
-          (λ few. x.still_in p.near_ok.but.ends.its.state number) in
+          let later =
+          comes-by l.near l.service l.tei fit.call.near.0 l.lengths l.rate (λ p y. x.Still y.state) (λ p y. x.Later y.state) (λ p y. x.still_later y.state)
+          (still-asked l.near l.service l.tei fit.call.near.0 l.lengths l.rate n x start asked_by l.way) (later-expired l.near l.service l.tei fit.call.near.0 l.lengths l.rate n x start asked_by l.way)
+          l.way (w.beats / l.rate) w.beats p.S p.M b.near_asks w.near p.near_ok p.both.near (near-low l fit w p) (near-high l fit w p) p.near_counts (soon l fit w) talk.0
+          (x.still_in p.near_ok.but.ends.its.state number) near1 in
           let kept = far-walk (λ p y. Due (is_of x.answering l.far) start answered_by l.way w.beats p (ring l.far l.service l.tei 0 fit.call.far.0 y)) other_base
           (due-kept l.far l.service l.tei fit.call.far.0 l.far_lengths l.rate x.answering start answered_by l.way w.beats) y.far_low
           (λ few. from-here l.far l.service l.tei fit.call.far.0 x.answering start answered_by l.way w.beats w.far.at p.far_ok.but.ends due) in
-          far-after (subst x.Still (sym pull-state) (still.1 few-before.0))
+          far-after (subst x.Later (sym pull-state) later)
           (due-pull l.far l.service l.tei 0 fit.call.far.0 x.answering start answered_by l.way w.beats f1.at far1 (far-pulls l fit w y.pair b talk) (omega (arith, given)) (kept.1 few-before.1))
 
       -- and the first: the command is put before the pull, or as a frame is heard.

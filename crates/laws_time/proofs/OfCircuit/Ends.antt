@@ -42,6 +42,12 @@ pub comes-keep : (P : TimedEndpoint → Type 0) (Q : Request → Type 0) → ((r
     → (moment : ℕ) (rs : List Request) → All Q rs → (a : TimedEndpoint) → P (at_time moment a) → P (comes_to moment rs a)
 comes-keep P Q ask fall moment rs all a h = let b = fold asks (at_time moment a) rs in falls-keep P fall (length b.clock.running) b (fold-keeps asks Q P ask rs all (at_time moment a) h)
 
+-- The same, if what requests keep comes to what expiries keep.
+pub comes-both : (P R : TimedEndpoint → Type 0) (Q : Request → Type 0) → ((r : Request) (a : TimedEndpoint) → Q r → P a → P (asks a r)) → ((a : TimedEndpoint) → P a → R a)
+    → ((x : Expiry) (a : TimedEndpoint) → due a.clock ≡ Some x → R a → R (falls a x)) → (moment : ℕ) (rs : List Request) → All Q rs → (a : TimedEndpoint) → P (at_time moment a) → R (comes_to moment rs a)
+comes-both P R Q ask less fall moment rs all a h =
+    let b = fold asks (at_time moment a) rs in falls-keep R fall (length b.clock.running) b (less b (fold-keeps asks Q P ask rs all (at_time moment a) h))
+
 -- ---- an end of the clocked circuit is a timed card of octets that is prompt
 
 -- Steps that are prompt lead from one timed card to another.

@@ -19,7 +19,7 @@ use Rattle.laws_time.specs.circuit.LongEnough.{is_of}
 use Rattle.laws_time.proofs.Moments.{lengths-stay, now-stays, own-timer, is_own_t200}
 use Rattle.laws_time.proofs.OctetsMean.{meant_at, orders-are, event-inside}
 use Rattle.laws_time.proofs.Links.{state-is, view-then, on-where, stays-on}
-use Rattle.laws_time.proofs.OfCircuit.Ends.{Stands, stands-on, rest-of, stands-without, at_time, fold-keeps, falls-keep, comes-keep, first-of as first-of-acts}
+use Rattle.laws_time.proofs.OfCircuit.Ends.{Stands, stands-on, rest-of, stands-without, at_time, fold-keeps, falls-keep, comes-both, comes-keep, first-of as first-of-acts}
 use Rattle.laws_time.proofs.OfCircuit.Sender.{asks, is_asked, put-asks-not, put-ends-not, first-of, heard-asks, heard-time, Sends, sends-later}
 use Rattle.laws_time.proofs.OfCircuit.Orders.{starts-anew, runs-on, AreOurs, RunsOurs, ours-obeyed, awaits-in, of-link, expires-ours, request-ours, counts-on, not-anew}
 use Rattle.laws_time.proofs.OfCircuit.Open.{ring, half, waiting-then, puts-none, puts-by-now, IsOrdinary}
@@ -363,5 +363,18 @@ module _ (c : Config) (service : Service) (tei place : ℕ) (ranged : IsInRange 
       let t = at_time moment a in
       comes-keep (λ u. Goes S M t u × P u) Q
       (λ r u is w. let g = asks-goes u w.0.S' M w.0.ok (soon-then S M t u w.0 soon) r (own r is) in (goes-both S M t u (asks_acts u r) w.0 g, ask r u w.0.S' M w.0.ok g is w.1))
+      (λ x u is w. let g = fell-goes u w.0.S' M w.0.ok (soon-then S M t u w.0 soon) x is in (goes-both S M t u (falls u x) w.0 g, fall x u w.0.S' M w.0.ok g is w.1))
+      moment rs all a (goes-none S M t h, p)
+
+  pub all-both : (P R : TimedEndpoint → Type 0) (Q : Request → Type 0) → ((r : Request) → Q r → IsOfLink service tei r)
+      → ((r : Request) (u : TimedEndpoint) (S M : ℕ) → End S M u → Goes S M u (asks_acts u r) → Q r → P u → P (asks_acts u r)) → ((u : TimedEndpoint) → P u → R u)
+      → ((x : Expiry) (u : TimedEndpoint) (S M : ℕ) → End S M u → Goes S M u (falls u x) → due u.clock ≡ Some x → R u → R (falls u x))
+      → (S M moment : ℕ) (rs : List Request) → All Q rs → (a : TimedEndpoint) → End S M (at_time moment a) → IsSoon (at_time moment a) → P (at_time moment a)
+      → Goes S M (at_time moment a) (comes_to moment rs a) × R (comes_to moment rs a)
+  all-both P R Q own ask less fall S M moment rs all a h soon p =
+      let t = at_time moment a in
+      comes-both (λ u. Goes S M t u × P u) (λ u. Goes S M t u × R u) Q
+      (λ r u is w. let g = asks-goes u w.0.S' M w.0.ok (soon-then S M t u w.0 soon) r (own r is) in (goes-both S M t u (asks_acts u r) w.0 g, ask r u w.0.S' M w.0.ok g is w.1))
+      (λ u w. (w.0, less u w.1))
       (λ x u is w. let g = fell-goes u w.0.S' M w.0.ok (soon-then S M t u w.0 soon) x is in (goes-both S M t u (falls u x) w.0 g, fall x u w.0.S' M w.0.ok g is w.1))
       moment rs all a (goes-none S M t h, p)

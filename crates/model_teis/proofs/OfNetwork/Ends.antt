@@ -1,5 +1,5 @@
 -- What the end of a check leaves: none runs any more, or the next does.
-use Rattle.model_teis.proofs.OfNetwork.Vocabulary.{arith, ◌≡◌, ℕ, ◌+◌, ◌≤◌, ◌==◌, nat_tests, Bool, true, false, cond, is_some, List, [], ◌∷◌, ◌++◌, length, length-append, get_or, position, list_any, sum_by, Option, Some, None, IfSome, refl, sym, subst, Order, Reading, Profile, AnnexB, by_reading, Message}
+use Rattle.model_teis.proofs.OfNetwork.Vocabulary.{arith, ◌≡◌, ℕ, ◌+◌, ◌≤◌, ◌==◌, nat_tests, Bool, true, false, is_some, List, [], ◌∷◌, ◌++◌, length, length-append, get_or, position, list_any, sum_by, Option, Some, None, IfSome, refl, sym, subst, Order, Reading, Profile, AnnexB, Message}
 use Rattle.model_teis.proofs.OfNetwork.Vocabulary.{Check, Settling, Course, Follows, is_checked, one_if, is_due, tei_at, may_send, due_at, begin_next, check_next, settle, stop_check, end_check, lowest_is_not_due, with_message, IsSound, IsSoundCheck, AreSoundChecks, IsAsRead, MayBeDue}
 use Rattle.model_teis.proofs.Tables.{is_on-at, same_number}
 use Rattle.model_teis.proofs.OfNetwork.Dues.{dues-none, dues-next, due-there, nobody, none-lowest, lowest_less, read-less}

@@ -58,7 +58,7 @@ lowest_is_assigned octets m = lowest-hear octets m
 pub new_is_assigned : NewIsAssigned
 unfolding course refusal
 new_is_assigned octets m ri place tei h =
-    let gains = gains-serve ri place tei m (heard_in octets) (responses_in octets) h.asks h.is_new h.unanswered h.room h.place_is h.tei_is in
+    let gains = gains-serve ri place tei m (heard_in m.reading octets) (responses_in octets) h.asks h.is_new h.unanswered h.room h.place_is h.tei_is in
     record { change = gains.0; answer = gains.1 }
 
 -- Sound management holds no more octets than four messages and four assignments have.

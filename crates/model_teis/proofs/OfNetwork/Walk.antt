@@ -8,6 +8,7 @@ use Rattle.lapd_frame.specs.declared.notes.Note.TheVariants.{Removed}
 use Rattle.lapd_frame.specs.declared.refusals.Refusal.TheVariants.{NoLink, TeiTaken, TableFull, CheckRunning, ControlFull}
 use Rattle.model_teis.specs.network.Events.{assign as assigning, check as checking, down, expiry, step}
 use Rattle.model_teis.specs.network.Rows.{ask_once}
+use Rattle.model_teis.specs.Information.{heard_by, looked_at}
 use Rattle.model_teis.proofs.Tables.{same_number, not_not}
 
 -- What a claim has to say of each way in which a message of a terminal ends,
@@ -67,7 +68,7 @@ IsLow other = Unit {0}
 low-of : (type ri action : ℕ) → IsLow (heard_of_type type ri action)
 low-of type ri action = grind (arith, nat_tests)
 
-pub low-heard : (octets : List ℕ) → IsLow (heard_in octets)
+low-heard : (octets : List ℕ) → IsLow (heard_by heard_of_type octets)
 low-heard [] = tt
 low-heard (entity ∷ []) = tt
 low-heard (entity ∷ high ∷ []) = tt
@@ -139,7 +140,7 @@ module _ (m : Management) (E : Course → Type 0) where
   of_serve w None teis low = as_read E m.reading (unserved (begun m)) (respond_among teis m.check (begun m)) (λ r. w.is_unserved) (λ r. of_among w teis m.check refl)
 
   pub of_hear : OfMessages m E → (octets : List ℕ) → E (hear octets (begun m))
-  of_hear w octets = of_serve w (heard_in octets) (responses_in octets) (low-heard octets)
+  of_hear w octets = of_serve w (heard_in m.reading octets) (responses_in octets) (low-heard (looked_at m.reading octets))
 
   -- an expiry of T201
   of_removed : OfExpiries m E → (own : Check) → m.check ≡ Some own → E (removed own.tei (begun m))

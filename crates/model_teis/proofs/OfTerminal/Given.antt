@@ -64,8 +64,8 @@ nobody (suc places) zero tei there = none-some tei there
 nobody (suc places) (suc place) tei there = nobody places place tei there
 
 pub each_was_given : EachWasGiven
-each_was_given terminals seed acts tei place few low range there =
-    elim (given_by acts (fresh terminals seed) tei place range (sound_fresh terminals seed few low) there) [
+each_was_given r terminals seed acts tei place few low range there =
+    elim (given_by acts (fresh r terminals seed) tei place range (sound_fresh r terminals seed few low) there) [
       | inl before ↦ absurd (nobody terminals place tei before)
       | inr given ↦ given
     ]

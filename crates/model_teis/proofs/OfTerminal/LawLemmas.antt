@@ -14,7 +14,7 @@ sound_acts (event e ∷ acts) m range sound = sound_acts acts (after e m) range.
 sound_acts (pull ∷ acts) m range sound = sound_acts acts (after_offer m) range.1 (sound_rest m sound)
 
 pub sound_throughout : IsSoundThroughout
-sound_throughout terminals seed acts few low range = sound_acts acts (fresh terminals seed) range (sound_fresh terminals seed few low)
+sound_throughout r terminals seed acts few low range = sound_acts acts (fresh r terminals seed) range (sound_fresh r terminals seed few low)
 
 pub changes_are_told : ChangesAreTold
 changes_are_told e m range sound = (leads e m range sound).moves
@@ -33,6 +33,6 @@ places_acts (event e ∷ acts) m range sound =
 places_acts (pull ∷ acts) m range sound = places_acts acts (after_offer m) range.1 (sound_rest m sound)
 
 pub room_is_enough : RoomIsEnough
-room_is_enough terminals seed acts few low range =
-    let begins = sound_fresh terminals seed few low in
-    omega (arith, room (after_acts acts (fresh terminals seed)) (sound_acts acts (fresh terminals seed) range begins), places_acts acts (fresh terminals seed) range begins, empty_length terminals)
+room_is_enough r terminals seed acts few low range =
+    let begins = sound_fresh r terminals seed few low in
+    omega (arith, room (after_acts acts (fresh r terminals seed)) (sound_acts acts (fresh r terminals seed) range begins), places_acts acts (fresh r terminals seed) range begins, empty_length terminals)

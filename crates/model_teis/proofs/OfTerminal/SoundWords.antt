@@ -3,6 +3,7 @@ use Rattle.model_teis.proofs.OfTerminal.Vocabulary.{◌≡◌, ℕ, zero, suc, �
 use Rattle.model_teis.proofs.OfTerminal.Vocabulary.{free_place, is_on, place_of, freed, table-empty, table-freed, table-put, on-freed, on-put, on-range, IsSoundTable, Terminal, fresh, Procedure, Asking, Verifying, Message, IdentityRequest, IdentityCheckResponse, IdentityVerify, action_of, next_number, IsSound, IsSoundProcedure, IsSoundQueue, is_due, is_other, is_response}
 use Rattle.model_teis.proofs.OfTerminal.Vocabulary.{is_response_of, is_verified, is_verify, is_request, position, put_at, may_ask, may_verify, with_request, with_verify, named, teis_on, length-append, slice_get, slice_get_within, get_or_from_slice_get}
 use Rattle.std.proofs.Math.Nat.{mod-lt}
+use Rattle.lapd_frame.specs.declared.readings.Reading.{Reading}
 use Rattle.model_teis.proofs.Named.{teis_few}
 use Rattle.model_teis.proofs.OfTerminal.Queues.{IsDueAt, queue-kept, queue-stays, queue-rest, queue-more, queue-asked, queue-verified, queue-length, no_response}
 
@@ -11,8 +12,8 @@ pub empty_length : (n : ℕ) → length (replicate {A = Option ℕ} n None) ≡ 
 empty_length zero = refl
 empty_length (suc n) = ap suc (empty_length n)
 
-pub sound_fresh : (terminals seed : ℕ) → terminals ≤ 8 → seed < 65536 → IsSound (fresh terminals seed)
-sound_fresh terminals seed few low = record {
+pub sound_fresh : (r : Reading) (terminals seed : ℕ) → terminals ≤ 8 → seed < 65536 → IsSound (fresh r terminals seed)
+sound_fresh r terminals seed few low = record {
   few = omega (arith, empty_length terminals);
   table = table-empty terminals;
   number = low;

@@ -8,7 +8,7 @@ use Rattle.lapd_frame.specs.declared.notes.Note.TheVariants.{Assigned, Denied, R
 use Rattle.model_teis.specs.terminal.Messages.{Heard, IdentityAssigned, IdentityDenied, IdentityCheckRequest, IdentityRemove, heard_in}
 use Rattle.model_teis.specs.Steps.{◌then◌}
 use Rattle.model_teis.specs.terminal.Words.{Course, Step, begun, note, unserved, ask, verify, end_procedure, join}
-use Rattle.model_teis.specs.terminal.Rows.{is_assignable, take_at, take_tei, assigned, denied, answered, checked, removed, removed_each, serve, give_up_asking, expire_procedure, join_at, take_off, end_if_any, withdraw_all}
+use Rattle.model_teis.specs.terminal.Rows.{is_assignable, lowest_taken, take_at, take_tei, assigned, denied, answered, checked, removed, removed_each, serve, give_up_asking, expire_procedure, join_at, take_off, end_if_any, withdraw_all}
 use Rattle.model_teis.specs.terminal.Events.{Event, message, expiry, assign, remove, down, refusal, unless_refused, ask as asking, verify as verifying}
 unfoldable use Rattle.model_teis.specs.terminal.Events.{course}
 
@@ -19,7 +19,7 @@ pub record OfEvents (e : Event) (m : Terminal) (E : Course → Type 0) : Type 0 
   pub asks : (attempts : ℕ) → may_ask m.procedure ≡ true → 1 ≤ attempts → attempts ≤ 3 → E (ask attempts (begun m))
   pub verifies : (tei : ℕ) → is_on tei m.places ≡ true → may_verify tei m.procedure ≡ true → E (verify tei 1 (begun m))
   pub verifies_again : (tei made : ℕ) → m.procedure ≡ Some (Verifying tei made) → made + 1 ≤ 2 → E (verify tei (made + 1) (begun m))
-  pub takes : (octets : List ℕ) (ri tei attempts place : ℕ) → e ≡ message octets → heard_in octets ≡ Some (IdentityAssigned ri tei) → m.procedure ≡ Some (Asking ri attempts)
+  pub takes : (octets : List ℕ) (ri tei attempts place : ℕ) → e ≡ message octets → heard_in m.reading octets ≡ Some (IdentityAssigned ri tei) → m.procedure ≡ Some (Asking ri attempts)
       → is_on tei m.places ≡ false → tei ≤ 126 → free_place m.places ≡ Some place → E (note (Assigned tei) (end_procedure (join tei place (begun m))))
   pub is_denied : E (note Denied (begun m))
   pub answers : (octets teis : List ℕ) → e ≡ message octets → All (λ tei. is_on tei m.places ≡ true) teis → length teis ≤ max 1 (length m.places) → E (fold answered (begun m) teis)
@@ -72,21 +72,21 @@ idle_if_granted m granted =
 
 module _ (e : Event) (m : Terminal) (E : Course → Type 0) (w : OfEvents e m E) where
   -- an assignment
-  of_take_at : (octets : List ℕ) (ri tei attempts : ℕ) (o : Option ℕ) → e ≡ message octets → heard_in octets ≡ Some (IdentityAssigned ri tei) → m.procedure ≡ Some (Asking ri attempts)
-      → is_assignable tei m.places ≡ true → free_place m.places ≡ o → E (take_at tei o (begun m))
+  of_take_at : (octets : List ℕ) (ri tei attempts : ℕ) (o : Option ℕ) → e ≡ message octets → heard_in m.reading octets ≡ Some (IdentityAssigned ri tei) → m.procedure ≡ Some (Asking ri attempts)
+      → is_assignable m.reading tei m.places ≡ true → free_place m.places ≡ o → E (take_at tei o (begun m))
   of_take_at octets ri tei attempts None is heard runs may at = w.is_unserved
   of_take_at octets ri tei attempts (Some place) is heard runs may at =
-      let parts = three (nat_le 64 tei) (nat_le tei 126) (not (is_on tei m.places)) may in
+      let parts = three (nat_le (lowest_taken m.reading) tei) (nat_le tei 126) (not (is_on tei m.places)) may in
       let low : tei ≤ 126 = grind (arith, nat_tests) in
       w.takes octets ri tei attempts place is heard runs (is_not (is_on tei m.places) parts.2) low at
 
-  of_own : (octets : List ℕ) (ri tei own attempts : ℕ) → e ≡ message octets → heard_in octets ≡ Some (IdentityAssigned ri tei) → m.procedure ≡ Some (Asking own attempts) → (own == ri) ≡ true → E (take_tei tei (begun m))
+  of_own : (octets : List ℕ) (ri tei own attempts : ℕ) → e ≡ message octets → heard_in m.reading octets ≡ Some (IdentityAssigned ri tei) → m.procedure ≡ Some (Asking own attempts) → (own == ri) ≡ true → E (take_tei tei (begun m))
   of_own octets ri tei own attempts is heard runs same =
       let runs_for : m.procedure ≡ Some (Asking ri attempts) = subst (λ n. m.procedure ≡ Some (Asking n attempts)) (same_number own ri same) runs in
-      one_of (is_assignable tei m.places) E (take_at tei (free_place m.places)) unserved (begun m)
+      one_of (is_assignable m.reading tei m.places) E (take_at tei (free_place m.places)) unserved (begun m)
       (λ may. of_take_at octets ri tei attempts (free_place m.places) is heard runs_for may refl) (λ not. w.is_unserved)
 
-  of_assigned : (octets : List ℕ) (ri tei : ℕ) (o : Option Procedure) → e ≡ message octets → heard_in octets ≡ Some (IdentityAssigned ri tei) → m.procedure ≡ o → E (assigned ri tei o (begun m))
+  of_assigned : (octets : List ℕ) (ri tei : ℕ) (o : Option Procedure) → e ≡ message octets → heard_in m.reading octets ≡ Some (IdentityAssigned ri tei) → m.procedure ≡ o → E (assigned ri tei o (begun m))
   of_assigned octets ri tei None is heard runs =
       one_of (is_on tei m.places) E (verify tei 1) unserved (begun m) (λ on. w.verifies tei on (ap (may_verify tei) runs)) (λ off. w.is_unserved)
   of_assigned octets ri tei (Some (Asking own attempts)) is heard runs =
@@ -108,7 +108,7 @@ module _ (e : Event) (m : Terminal) (E : Course → Type 0) (w : OfEvents e m E)
   of_removed (tei ∷ []) = w.is_removed tei
   of_removed (tei ∷ other ∷ teis) = w.is_told
 
-  of_serve : (octets : List ℕ) (o : Option Heard) → e ≡ message octets → heard_in octets ≡ o → E (serve o (begun m))
+  of_serve : (octets : List ℕ) (o : Option Heard) → e ≡ message octets → heard_in m.reading octets ≡ o → E (serve o (begun m))
   of_serve octets None is heard = w.is_unserved
   of_serve octets (Some (IdentityAssigned ri tei)) is heard = of_assigned octets ri tei m.procedure is heard refl
   of_serve octets (Some (IdentityDenied ri)) is heard = of_denied ri m.procedure
@@ -136,7 +136,7 @@ module _ (e : Event) (m : Terminal) (E : Course → Type 0) (w : OfEvents e m E)
 -- What is said of each way holds of every event.
 pub of_event : (e : Event) (m : Terminal) (E : Course → Type 0) → OfEvents e m E → E (course e m)
 unfolding course
-of_event (message octets) m E w = of_serve (message octets) m E w octets (heard_in octets) refl refl
+of_event (message octets) m E w = of_serve (message octets) m E w octets (heard_in m.reading octets) refl refl
 of_event expiry m E w = of_expire expiry m E w m.procedure refl
 of_event asking m E w =
     unless (refusal asking m) m E (ask 1) w.is_idle (λ granted.

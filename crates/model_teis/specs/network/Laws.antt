@@ -72,7 +72,7 @@ LowestIsAssigned = (octets : List ℕ) (m : Management) → AssignsLowest m.plac
 -- A terminal asks for a TEI: its Ri is not remembered and, by annex B, no TEI for it waits to be sent; there is room for an
 -- answer, and a place and a TEI are free.
 pub record MayBeAssigned (octets : List ℕ) (m : Management) (ri place tei : ℕ) : Type 0 where
-  pub asks : heard_in octets ≡ Some (IdentityRequest ri)
+  pub asks : heard_in m.reading octets ≡ Some (IdentityRequest ri)
   pub is_new : remembered_in ri m.remembered ≡ None
   pub unanswered : m.reading ≡ AnnexB → list_any (assigns_for ri) m.waiting ≡ false
   pub room : length m.waiting < messages_limit

@@ -1,9 +1,10 @@
 -- The messages of TEI management (Q.921 clause 5.3.6): what the network's are in octets, and which of the terminal's
 -- octets are.
-use Rattle.std.specs.Prelude.{ℕ, ◌+◌, ◌/◌, ◌%◌, ◌==◌, ◌&&◌, nat_le, Bool, false, List, ◌∷◌, length, Option, Some, None, if◌then◌else◌}
+use Rattle.std.specs.Prelude.{ℕ, ◌+◌, ◌/◌, ◌%◌, ◌==◌, ◌&&◌, nat_le, nat_lt, Bool, List, ◌∷◌, take, Option, Some, None, if◌then◌else◌}
 use Rattle.std.specs.List.{position}
 use Rattle.lapd_frame.specs.declared.addresses.Side.{Side}
-use Rattle.model_teis.specs.Information.{information, in_frame, heard_by}
+use Rattle.lapd_frame.specs.declared.readings.Reading.{Reading}
+use Rattle.model_teis.specs.Information.{information, in_frame, heard_by, looked_at}
 pub use Rattle.model_teis.specs.declared.network.messages.Message.{Message}
 pub use Rattle.model_teis.specs.declared.network.messages.Message.TheVariants.{IdentityAssigned, IdentityDenied, IdentityCheckRequest, IdentityRemove}
 pub use Rattle.model_teis.specs.declared.network.heard.Heard.{Heard}
@@ -45,29 +46,27 @@ heard_of_type type ri action =
     else if type == 7 then Some (IdentityVerify action)
     else None
 
--- Which message with one Ai the information of a UI frame is, in exactly five octets, and `None` where it is none that is
--- served.
-abbrev pub heard_in : List ℕ → Option Heard
-heard_in octets = heard_by heard_of_type octets
+-- Which message with one Ai the information of a UI frame is, and `None` where it is none that is served.
+abbrev pub heard_in : Reading → List ℕ → Option Heard
+heard_in reading octets = heard_by heard_of_type (looked_at reading octets)
 
--- The Ai of a check response with more than one, at most 64: each has one octet, whose bit 1 is 0 in all but the last (clauses
--- 5.3.3.2 and 5.3.6).
+-- The Ai of a check response, which may be more than one, at most 64: each has one octet, whose bit 1 is 0 in all but the last
+-- (clauses 5.3.3.2 and 5.3.6). What follows the last is not looked at.
 abbrev pub is_last : ℕ → Bool
 is_last octet = octet % 2 == 1
 
-abbrev pub ends_at : ℕ → Option ℕ → Bool
-ends_at count None = false
-ends_at count (Some place) = place + 1 == count
+abbrev pub most_actions : ℕ
+most_actions = 64
 
-abbrev pub is_extended : List ℕ → Bool
-is_extended octets = ends_at (length octets) (position is_last octets)
+abbrev pub up_to : List ℕ → Option ℕ → Option (List ℕ)
+up_to octets None = None
+up_to octets (Some place) = if nat_lt place most_actions then Some (take (place + 1) octets) else None
 
-abbrev pub has_actions : ℕ → ℕ → List ℕ → Bool
-has_actions entity type octets =
-    entity == 0x0F && type == 5 && nat_le 2 (length octets) && nat_le (length octets) 64 && is_extended octets
+abbrev pub actions_of : ℕ → ℕ → List ℕ → Option (List ℕ)
+actions_of entity type octets = if entity == 0x0F && type == 5 then up_to octets (position is_last octets) else None
 
 abbrev pub responses_in : List ℕ → Option (List ℕ)
-responses_in (entity ∷ high ∷ low ∷ type ∷ octets) = if has_actions entity type octets then Some octets else None
+responses_in (entity ∷ high ∷ low ∷ type ∷ octets) = actions_of entity type octets
 responses_in other = None
 
 -- whether such an octet names the TEI

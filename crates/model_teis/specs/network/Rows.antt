@@ -98,7 +98,7 @@ respond tei None = unserved
 respond tei (Some check) = if check.tei == tei then count tei (counted check) else unserved
 
 -- A check response with more Ai than one: not served (profile); by annex B it counts once, if the TEI under check is among
--- them (clause 5.3.3.2).
+-- them (clause 5.3.3.2). One Ai is served above.
 abbrev pub is_among : ℕ → Option (List ℕ) → Bool
 is_among tei None = false
 is_among tei (Some octets) = list_any (names tei) octets
@@ -116,7 +116,7 @@ serve (Some (IdentityCheckResponse tei)) teis c = respond tei c.now.check c
 serve None teis c = read_as unserved (respond_among teis c.now.check) c
 
 abbrev pub hear : List ℕ → Step
-hear octets = serve (heard_in octets) (responses_in octets)
+hear octets c = serve (heard_in c.now.reading octets) (responses_in octets) c
 
 -- T201 has expired (clause 5.3.3.2). In the first period the check is asked for again. At the end of the second the
 -- check ends, and a TEI without a response in either period leaves the line (clauses 5.3.3.2 and 5.3.4); by annex B the

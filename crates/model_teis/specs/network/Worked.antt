@@ -1,5 +1,5 @@
 -- Worked values: what the rows of annex B leave and tell, and in the profile where it differs.
-use Rattle.std.specs.Prelude.{◌≡◌, ℕ, List, [], ◌∷◌, true, false, Some, None, refl}
+use Rattle.std.specs.Prelude.{◌≡◌, ℕ, List, [], ◌∷◌, ◌++◌, replicate, true, false, Some, None, refl}
 use Rattle.lapd_frame.specs.declared.notes.Note.TheVariants.{Doubled, Removed}
 use Rattle.lapd_frame.specs.declared.readings.Reading.{Reading}
 use Rattle.lapd_frame.specs.declared.readings.Reading.TheVariants.{Profile, AnnexB}
@@ -36,6 +36,15 @@ of_choice : ((made AnnexB (event (says 1 (0x8D ∷ [])) ∷ [])).waiting ≡ Ide
     × (told (says 1 (0x8D ∷ [])) (empty Profile 3) ≡ passed_over) × (told (says 1 (0x7F ∷ [])) (empty AnnexB 3) ≡ passed_over)
 unfolding course refusal
 of_choice = (refl, refl, refl)
+
+-- More octets follow: by annex B the first five are read, in the profile none. In the fifth bit 1 is 0, or it is missing.
+abbrev longer : Event
+longer = says 1 (0xFF ∷ 0x00 ∷ 0x12 ∷ [])
+
+padded : ((made AnnexB (event longer ∷ [])).waiting ≡ IdentityAssigned 0x1234 64 ∷ []) × (told longer (empty Profile 3) ≡ passed_over)
+    × (told (says 1 (0xFE ∷ 0xFF ∷ [])) (empty AnnexB 3) ≡ passed_over) × (told (says 1 []) (empty AnnexB 3) ≡ passed_over)
+unfolding course refusal
+padded = (refl, refl, refl, refl)
 
 -- TEIs 66, 65 and 64 are at the places 0, 1 and 2. While TEI 66 is under check, TEIs 64 and 65 are to be verified: each is asked for
 -- once. A verify of TEI 66 is not served.
@@ -91,7 +100,7 @@ forgotten : ((after (remove 64) settling).to_check ≡ false ∷ false ∷ false
 unfolding course refusal
 forgotten = (refl, refl, refl, refl)
 
--- Responses name TEIs 64 and 65 in one message; two of these come in one period. In one more, bit 1 is 1 before the last.
+-- Responses name TEIs 64 and 65 in one message; two of these come in one period. One more ends with TEI 64.
 abbrev answered : Management
 answered = after (says 5 (0x80 ∷ 0x83 ∷ [])) begins
 
@@ -99,3 +108,10 @@ counts : (answered.check ≡ Some (record { tei = 65; period = First; first = 1;
     × ((told (says 5 (0x82 ∷ 0x81 ∷ [])) answered).notes ≡ Doubled 65 ∷ []) × (told (says 5 (0x81 ∷ 0x83 ∷ [])) begins ≡ passed_over)
 unfolding course refusal
 counts = (refl, refl, refl)
+
+-- Octets follow the last Ai: they are not looked at. TEI 65 is the last of 64 Ai, and of 65; and no Ai is the last.
+long : ((after (says 5 (0x83 ∷ 0x81 ∷ [])) begins).check ≡ answered.check) × ((after (says 5 (0x80 ∷ 0x83 ∷ 0x80 ∷ [])) begins).check ≡ answered.check)
+    × ((after (says 5 (replicate 63 0x80 ++ 0x83 ∷ 0x00 ∷ [])) begins).check ≡ answered.check)
+    × (told (says 5 (replicate 64 0x80 ++ 0x83 ∷ [])) begins ≡ passed_over) × (told (says 5 (0x80 ∷ 0x82 ∷ [])) begins ≡ passed_over)
+unfolding course refusal
+long = (refl, refl, refl, refl, refl)

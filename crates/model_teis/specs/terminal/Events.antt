@@ -4,10 +4,10 @@ use Rattle.lapd_frame.specs.declared.refusals.Refusal.{Refusal}
 use Rattle.lapd_frame.specs.declared.refusals.Refusal.TheVariants.{NoLink, TeiTaken, TableFull, CheckRunning}
 use Rattle.model_teis.specs.Refused.{refusal_if}
 use Rattle.model_teis.specs.Table.{is_on, free_place}
-use Rattle.model_teis.specs.terminal.Messages.{heard_in, frame_of}
+use Rattle.model_teis.specs.terminal.Messages.{frame_of}
 use Rattle.model_teis.specs.terminal.Machine.{Terminal, TeiTold}
 use Rattle.model_teis.specs.terminal.Words.{Course, begun, Step, ask as ask_first, verify as verify_first}
-use Rattle.model_teis.specs.terminal.Rows.{serve, expire, put_on, take_off, give_up}
+use Rattle.model_teis.specs.terminal.Rows.{hear, expire, put_on, take_off, give_up}
 
 -- The information of a UI frame of SAPI 63 to the group TEI; the expiry of T202; the requests of layer management: ask
 -- for a TEI, and verify, assign or remove one; and that the line is down.
@@ -32,7 +32,7 @@ refusal down m = None
 
 -- What an event does that is not refused.
 abbrev pub step : Event → Step
-step (message octets) = serve (heard_in octets)
+step (message octets) = hear octets
 step expiry = expire
 step ask = ask_first 1
 step (verify tei) = verify_first tei 1

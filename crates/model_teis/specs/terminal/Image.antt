@@ -34,7 +34,8 @@ pub record IsSaved (t : Terminal) : Type 0 where
   pub sound : IsSound t
   pub messages : All IsOfOctets t.waiting
 
--- Of a table of so many places.
+-- Of a table of so many places, read in this way.
 pub record IsSavedOf (like t : Terminal) : Type 0 where
   pub saved : IsSaved t
+  pub reading : t.reading ≡ like.reading
   pub places : length t.places ≡ length like.places

@@ -4,6 +4,7 @@ use Rattle.std.specs.List.{count_by}
 use Rattle.lapd_frame.specs.declared.timers.Order.{Order}
 use Rattle.lapd_frame.specs.declared.timers.Order.TheVariants.{Start, Stop}
 use Rattle.lapd_frame.specs.declared.timers.Timer.TheVariants.{T202}
+use Rattle.lapd_frame.specs.declared.readings.Reading.{Reading}
 use Rattle.model_teis.specs.Changes.{Moves}
 use Rattle.model_teis.specs.declared.changes.Change.{Change}
 use Rattle.model_teis.specs.declared.changes.Change.TheVariants.{Gained, Left}
@@ -48,12 +49,12 @@ after_acts (act ∷ acts) m = after_acts acts (after_act act m)
 
 -- From a fresh line on, things are sound at all times,
 abbrev pub IsSoundThroughout : Type 0
-IsSoundThroughout = (terminals seed : ℕ) (acts : List Act) → terminals ≤ 8 → seed < 65536 → AreInRange acts → IsSound (after_acts acts (fresh terminals seed))
+IsSoundThroughout = (r : Reading) (terminals seed : ℕ) (acts : List Act) → terminals ≤ 8 → seed < 65536 → AreInRange acts → IsSound (after_acts acts (fresh r terminals seed))
 
 -- and a place more than the line may have TEIs is enough for the messages that wait.
 abbrev pub RoomIsEnough : Type 0
-RoomIsEnough = (terminals seed : ℕ) (acts : List Act) → terminals ≤ 8 → seed < 65536 → AreInRange acts
-    → length (after_acts acts (fresh terminals seed)).waiting ≤ terminals + 1
+RoomIsEnough = (r : Reading) (terminals seed : ℕ) (acts : List Act) → terminals ≤ 8 → seed < 65536 → AreInRange acts
+    → length (after_acts acts (fresh r terminals seed)).waiting ≤ terminals + 1
 
 -- So none is told as lost.
 abbrev pub NoneIsLost : Type 0
@@ -78,7 +79,7 @@ IsGiven e m None = Unit {0}
 IsGiven e m (Some (Left tei place)) = Unit {0}
 IsGiven e m (Some (Gained tei place)) =
     (e ≡ assign tei)
-    ⊎ ((octets : List ℕ) × (ri : ℕ) × (attempts : ℕ) × (e ≡ message octets) × (heard_in octets ≡ Some (IdentityAssigned ri tei)) × (m.procedure ≡ Some (Asking ri attempts)))
+    ⊎ ((octets : List ℕ) × (ri : ℕ) × (attempts : ℕ) × (e ≡ message octets) × (heard_in m.reading octets ≡ Some (IdentityAssigned ri tei)) × (m.procedure ≡ Some (Asking ri attempts)))
 
 abbrev pub NoneIsTaken : Type 0
 NoneIsTaken = (e : Event) (m : Terminal) → IsGiven e m (told e m).change
@@ -93,8 +94,8 @@ WasGiven [] m tei place = ⊥
 WasGiven (act ∷ acts) m tei place = Gives act m tei place ⊎ WasGiven acts (after_act act m) tei place
 
 abbrev pub EachWasGiven : Type 0
-EachWasGiven = (terminals seed : ℕ) (acts : List Act) (tei place : ℕ) → terminals ≤ 8 → seed < 65536 → AreInRange acts
-    → IsAt (after_acts acts (fresh terminals seed)).places place tei → WasGiven acts (fresh terminals seed) tei place
+EachWasGiven = (r : Reading) (terminals seed : ℕ) (acts : List Act) (tei place : ℕ) → terminals ≤ 8 → seed < 65536 → AreInRange acts
+    → IsAt (after_acts acts (fresh r terminals seed)).places place tei → WasGiven acts (fresh r terminals seed) tei place
 
 -- T202 runs while a procedure does, and orders say so to a caller: after a Start one runs, after a Stop none does, and
 -- without an order one runs if it ran before. No other timer is ordered, and none twice.
@@ -135,6 +136,10 @@ pub record GoesOn (count : ℕ) (old new : Terminal) : Type 0 where
 -- It takes a few numbers at most. That no two of the new messages have the same, `teis_are_managed` of `laws_trace` says.
 abbrev pub NumbersGoOn : Type 0
 NumbersGoOn = (e : Event) (m : Terminal) → (count : ℕ) × (count ≤ length m.places + 1) × GoesOn count m (after e m)
+
+-- The reading stays what it was.
+abbrev pub ReadingStays : Type 0
+ReadingStays = (e : Event) (m : Terminal) → (after e m).reading ≡ m.reading
 
 -- A message that is not served changes nothing, and nothing else is told of it.
 abbrev pub UnservedChangesNothing : Type 0

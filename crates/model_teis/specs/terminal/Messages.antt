@@ -2,7 +2,8 @@
 -- the network's octets are.
 use Rattle.std.specs.Prelude.{ℕ, ◌==◌, ◌&&◌, List, Option, Some, None, if◌then◌else◌}
 use Rattle.lapd_frame.specs.declared.addresses.Side.TheVariants.{User}
-use Rattle.model_teis.specs.Information.{information, in_frame, heard_by}
+use Rattle.lapd_frame.specs.declared.readings.Reading.{Reading}
+use Rattle.model_teis.specs.Information.{information, in_frame, heard_by, looked_at}
 pub use Rattle.model_teis.specs.declared.terminal.messages.Message.{Message}
 pub use Rattle.model_teis.specs.declared.terminal.messages.Message.TheVariants.{IdentityRequest, IdentityCheckResponse, IdentityVerify}
 pub use Rattle.model_teis.specs.declared.terminal.heard.Heard.{Heard}
@@ -40,7 +41,6 @@ heard_of_type type ri action =
     else if type == 6 then Some (IdentityRemove action)
     else None
 
--- Which message the information of a UI frame is, and `None` if it is none that is served. It has exactly five
--- octets (profile: one Ai).
-abbrev pub heard_in : List ℕ → Option Heard
-heard_in octets = heard_by heard_of_type octets
+-- Which message the information of a UI frame is, and `None` if it is none that is served (profile: one Ai).
+abbrev pub heard_in : Reading → List ℕ → Option Heard
+heard_in reading octets = heard_by heard_of_type (looked_at reading octets)

@@ -2,25 +2,30 @@
 use Rattle.std.specs.Prelude.{ℕ, ◌+◌, Bool, not, ◌&&◌, ◌==◌, nat_le, nat_lt, List, [], ◌∷◌, Option, Some, None, if◌then◌else◌}
 use Rattle.std.specs.List.{fold}
 use Rattle.lapd_frame.specs.declared.notes.Note.TheVariants.{Assigned, Removed, Denied, Unassigned, RemoveAll}
+use Rattle.lapd_frame.specs.declared.readings.Reading.{Reading}
+use Rattle.lapd_frame.specs.Readings.{by_reading}
 use Rattle.model_teis.specs.Table.{Places, is_on, free_place}
 pub use Rattle.model_teis.specs.Table.{named}
-use Rattle.model_teis.specs.terminal.Messages.{Heard, IdentityAssigned, IdentityDenied, IdentityCheckRequest, IdentityRemove}
+use Rattle.model_teis.specs.terminal.Messages.{Heard, IdentityAssigned, IdentityDenied, IdentityCheckRequest, IdentityRemove, heard_in}
 use Rattle.model_teis.specs.terminal.Machine.{most_requests, most_verifies, Procedure, Asking, Verifying}
 use Rattle.model_teis.specs.Steps.{◌then◌, nothing_happens}
 use Rattle.model_teis.specs.terminal.Words.{Course, Step, note, unserved, ask, verify, end_procedure, end_verifying_of, respond, join, leave}
 
 -- A TEI is assigned to the terminal, which has asked for one by this reference number (clause 5.3.2): one that the
--- network assigns (64 to 126, clause 3.3.4.2), not on the line so far. It takes the lowest place that is free
--- (profile).
+-- network assigns (64 to 126, clause 3.3.4.2), by annex B any of 0 to 126, not on the line so far. It takes the lowest place
+-- that is free (profile).
 abbrev pub take_at : ℕ → Option ℕ → Step
 take_at tei (Some place) = join tei place then end_procedure then note (Assigned tei)
 take_at tei None = unserved
 
-abbrev pub is_assignable : ℕ → Places → Bool
-is_assignable tei places = nat_le 64 tei && nat_le tei 126 && not (is_on tei places)
+abbrev pub lowest_taken : Reading → ℕ
+lowest_taken reading = by_reading reading 64 0
+
+abbrev pub is_assignable : Reading → ℕ → Places → Bool
+is_assignable reading tei places = nat_le (lowest_taken reading) tei && nat_le tei 126 && not (is_on tei places)
 
 abbrev pub take_tei : ℕ → Step
-take_tei tei c = (if is_assignable tei c.now.places then take_at tei (free_place c.now.places) else unserved) c
+take_tei tei c = (if is_assignable c.now.reading tei c.now.places then take_at tei (free_place c.now.places) else unserved) c
 
 -- Another terminal is assigned a TEI that this one has: verifying it begins (clause 5.3.4.2; in place of its removal,
 -- profile). While a procedure runs that is not served (profile).
@@ -70,6 +75,9 @@ serve (Some (IdentityAssigned ri tei)) c = assigned ri tei c.now.procedure c
 serve (Some (IdentityDenied ri)) c = denied ri c.now.procedure c
 serve (Some (IdentityCheckRequest tei)) c = checked (named tei c.now.places) c
 serve (Some (IdentityRemove tei)) c = removed_each (named tei c.now.places) c
+
+abbrev pub hear : List ℕ → Step
+hear octets c = serve (heard_in c.now.reading octets) c
 
 -- T202 has expired (clause 5.3.2.1; of verifying, clause 5.3.5). A TEI is asked for again, with a new reference number,
 -- as often as N202 allows, and management is told if none came. A verify is sent twice; without a check after that the

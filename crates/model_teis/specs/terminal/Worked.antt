@@ -1,10 +1,11 @@
 -- Worked values: a terminal whose first reference number is 4660 (1234 in hexadecimal), with room for eight TEIs.
-use Rattle.std.specs.Prelude.{◌≡◌, ℕ, List, [], ◌∷◌, Some, None, refl}
+use Rattle.std.specs.Prelude.{◌≡◌, ℕ, List, [], ◌∷◌, true, Some, None, refl}
 use Rattle.lapd_frame.specs.declared.notes.Note.TheVariants.{Assigned, Removed, Denied, Unassigned, RemoveAll}
+use Rattle.lapd_frame.specs.declared.readings.Reading.TheVariants.{Profile, AnnexB}
 use Rattle.lapd_frame.specs.declared.timers.Order.TheVariants.{Start, Stop}
 use Rattle.lapd_frame.specs.declared.timers.Timer.TheVariants.{T202}
 use Rattle.model_teis.specs.declared.changes.Change.TheVariants.{Gained, Left}
-use Rattle.model_teis.specs.terminal.Machine.{Terminal, fresh, nothing}
+use Rattle.model_teis.specs.terminal.Machine.{Terminal, TeiTold, fresh, nothing}
 use Rattle.model_teis.specs.terminal.Numbers.{next_number}
 use Rattle.model_teis.specs.terminal.Events.{Event, message, expiry, ask, assign, after, told, offered, after_offer}
 unfoldable use Rattle.model_teis.specs.terminal.Events.{course}
@@ -15,7 +16,7 @@ after_all [] m = m
 after_all (e ∷ es) m = after_all es (after e m)
 
 abbrev line : Terminal
-line = fresh 8 4660
+line = fresh Profile 8 4660
 
 -- the numbers go on: 295D, 8BFA, 641B
 second_number : next_number 0x1234 ≡ 0x295D
@@ -118,3 +119,38 @@ verifies_again = refl
 leaves_unverified : told expiry (after expiry doubts) ≡ record nothing { notes = Removed 64 ∷ []; change = Some (Left 64 0); orders = Stop T202 ∷ [] }
 unfolding course
 leaves_unverified = refl
+
+-- By annex B a TEI below 64 is taken, too, in answer to the terminal's own request alone, and never 127; and more octets may follow
+-- the five of a message. In the profile neither is served.
+abbrev asked_by_annex_b : Terminal
+asked_by_annex_b = after_offer (after ask (fresh AnnexB 8 4660))
+
+abbrev of_choice : ℕ → List ℕ → List ℕ
+of_choice last more = 0x0F ∷ 0x12 ∷ 0x34 ∷ 2 ∷ last ∷ more
+
+abbrev passed_over : TeiTold
+passed_over = record nothing { unserved = true }
+
+takes_5 : told (message (of_choice 0x0B [])) asked_by_annex_b ≡ record nothing { notes = Assigned 5 ∷ []; change = Some (Gained 5 0); orders = Stop T202 ∷ [] }
+unfolding course
+takes_5 = refl
+
+takes_0_longer : told (message (of_choice 0x01 (0x00 ∷ 0xFF ∷ []))) asked_by_annex_b ≡ record nothing { notes = Assigned 0 ∷ []; change = Some (Gained 0 0); orders = Stop T202 ∷ [] }
+unfolding course
+takes_0_longer = refl
+
+takes_none_of_all : told (message (of_choice 0xFF [])) asked_by_annex_b ≡ passed_over
+unfolding course
+takes_none_of_all = refl
+
+takes_none_of_another : told (message (0x0F ∷ 0x55 ∷ 0x55 ∷ 2 ∷ 0x0B ∷ [])) asked_by_annex_b ≡ passed_over
+unfolding course
+takes_none_of_another = refl
+
+takes_none_in_the_profile : (told (message (of_choice 0x0B [])) asked ≡ passed_over) × (told (message (of_choice 0x81 (0x00 ∷ []))) asked ≡ passed_over)
+unfolding course
+takes_none_in_the_profile = (refl, refl)
+
+answers_longer : offered (after (message (0x0F ∷ 0 ∷ 0 ∷ 4 ∷ 0xFF ∷ 0x00 ∷ [])) (after (assign 64) asked_by_annex_b)) ≡ Some (0xFC ∷ 0xFF ∷ 0x03 ∷ 0x0F ∷ 0x29 ∷ 0x5D ∷ 5 ∷ 0x81 ∷ [])
+unfolding course
+answers_longer = refl

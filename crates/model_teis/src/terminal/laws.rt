@@ -1,6 +1,6 @@
 //! What holds of the table of TEI management of a terminal itself.
 
-ghost use Rattle.model_teis.specs.terminal.Laws.{IsSoundThroughout, RoomIsEnough, NoneIsLost, FewMoreWait, ChangesAreTold, NoneIsTaken, EachWasGiven, T202Follows, ExpiredT202Follows, NumbersGoOn, UnservedChangesNothing, DownGivesUp};
+ghost use Rattle.model_teis.specs.terminal.Laws.{IsSoundThroughout, RoomIsEnough, NoneIsLost, FewMoreWait, ChangesAreTold, NoneIsTaken, EachWasGiven, ReadingStays, T202Follows, ExpiredT202Follows, NumbersGoOn, UnservedChangesNothing, DownGivesUp};
 ghost use Rattle.model_teis.specs.terminal.Numbers.{NoneComesAgain, AllComeAgain};
 
 /// A line is sound from a fresh one of at most eight places on, after any events and pulls whose requests put on the line
@@ -39,6 +39,12 @@ pub fn no_number_comes_again()
     ensures along { NumbersGoOn }
     ensures none { NoneComesAgain }
     ensures all { AllComeAgain }
+{}
+
+/// No event changes the reading of the table. A law about the definitions in `specs/`; the call does nothing.
+#[tactic(auto, using(crate::proofs::OfTerminal::Read::reading_stays))]
+pub fn reading_stays()
+    ensures { ReadingStays }
 {}
 
 /// A message that is not served changes nothing, and nothing else is told of it. A law about the definitions in

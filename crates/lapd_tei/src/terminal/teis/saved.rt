@@ -23,7 +23,7 @@ impl TerminalTeis {
         self.queue.save(out, end)
     }
 
-    /// Reads what was saved of one with as many places.
+    /// Reads what was saved of one with as many places, and the same reading of the rows.
     ///
     /// # Errors
     ///
@@ -37,6 +37,7 @@ impl TerminalTeis {
         let procedure = procedure::restore(&table, reader)?;
         let queue = Queue::restored(&table, procedure, reader)?;
         *self = TerminalTeis {
+            reading: self.reading,
             table,
             number,
             procedure,

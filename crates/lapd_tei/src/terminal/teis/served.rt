@@ -5,14 +5,14 @@ ghost use Rattle.std.specs.List.{fold};
 ghost use Rattle.lapd_tei.specs.{is_on};
 ghost use Rattle.model_teis.specs.terminal.Words.{begun};
 ghost use Rattle.model_teis.specs.Table.{named};
-ghost use Rattle.model_teis.specs.terminal.Rows.{answered, assigned, denied, doubt, take_tei, checked, removed, removed_each, ask_again, verify_again, take_off};
+ghost use Rattle.model_teis.specs.terminal.Rows.{answered, assigned, denied, doubt, lowest_taken, take_tei, checked, removed, removed_each, ask_again, verify_again, take_off};
 ghost use Rattle.model_teis.specs.terminal.Sound.{may_ask, may_verify};
 ghost use Rattle.lapd_tei.specs.terminal.Outcome.{led_to, ordered};
 
 use super::TerminalTeis;
 use crate::outcome::TeiOutcome;
 use crate::table::{LOWEST, left};
-use lapd_frame::{LAST_TEI, Note, Order, ShortList};
+use lapd_frame::{LAST_TEI, Note, Order, Reading, ShortList};
 use model_teis::Change;
 use model_teis::terminal::Procedure;
 
@@ -48,7 +48,7 @@ impl TerminalTeis {
     fn take_tei(&mut self, tei: u8) -> TeiOutcome
         ensures led { led_to self.new result ≡ take_tei tei (begun self.old) }
     {
-        if tei < LOWEST || tei > LAST_TEI || self.table.is_on(tei) {
+        if tei < lowest_taken(self.reading) || tei > LAST_TEI || self.table.is_on(tei) {
             return TeiOutcome::unserved();
         }
         let Some(place) = self.table.free_place() else {
@@ -154,5 +154,15 @@ impl TerminalTeis {
             return self.verify_for(tei, attempts + 1);
         }
         self.removed(tei)
+    }
+}
+
+// The lowest TEI that a terminal takes in answer to its request: by annex B any.
+fn lowest_taken(reading: Reading) -> u8
+    ensures { result ≡ lowest_taken reading }
+{
+    match reading {
+        Reading::Profile => LOWEST,
+        Reading::AnnexB => 0,
     }
 }

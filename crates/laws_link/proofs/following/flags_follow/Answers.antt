@@ -17,5 +17,8 @@ returns-clause-pending c = λ t e l. (event-follows t e l).leaves.pending
 pub returns-clause-asked : goal.returns-clause-asked
 returns-clause-asked c = λ t e l. (event-follows t e l).leaves.asked
 
+pub returns-clause-owed : goal.returns-clause-owed
+returns-clause-owed c = λ t e l. (event-follows t e l).leaves.owed
+
 pub returns-clause-repeats : goal.returns-clause-repeats
 returns-clause-repeats c = λ t e l. (event-follows t e l).leaves.repeats

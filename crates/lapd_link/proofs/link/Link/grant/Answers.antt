@@ -9,7 +9,7 @@ pub returns-clause-reaches : goal.returns-clause-reaches
 returns-clause-reaches g c = λ others m s.
     let done : Granted c.args.request c.args.self.now c.match-request.self (g.S.Shelf.store c.match-request.shelf) c.match-request.report others m = elim c.match-request.branch [
       | in-Establish w ↦ granted_as w.in-Establish.is w.self-is (ap g.S.Shelf.store w.shelf-is) w.report-is
-          (by_rows Establish (record { none = c.args.report.now; nothing = c.requires.clear; does = w.establish_in_4.ensures.does [] }) s)
+          (by_rows Establish (record { none = c.args.report.now; nothing = c.requires.clear; does = w.ask_establishment.ensures.does [] }) s)
       | in-Release w ↦ granted_as w.in-Release.is w.self-is (ap g.S.Shelf.store w.shelf-is) w.report-is
           (by_rows Release (record { none = c.args.report.now; nothing = c.requires.clear; does = w.release.ensures.does [] }) s)
       | in-Data w ↦

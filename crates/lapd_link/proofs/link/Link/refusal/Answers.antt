@@ -1,13 +1,14 @@
 -- Hand-written answers for `Link::refusal`.
-use Rattle.lapd_link.proofs.Vocabulary.{◌≡◌, true, refl, sym, ap, subst, ◌∙◌, IfNone, State, serves, refusal_for_room, LinkRequest, request_of, HasRoom, terms_of}
+use Rattle.lapd_link.proofs.Vocabulary.{◌≡◌, Bool, true, refl, sym, ap, subst, ◌∙◌, IfNone, State, serves, refusal_for_room, LinkRequest, request_of, HasRoom, terms_of}
 use Rattle.model_link.specs.Link.{Link}
 use Rattle.lapd_link.proofs.Asking.{served}
 use Rattle.lapd_link.proofs.link.Link.refusal.Goals as goal
 
 pub returns-in-Data-clause-machine : goal.returns-in-Data-clause-machine
 returns-in-Data-clause-machine c = λ store others m s.
-    let does : serves m.state (request_of c.args.request) ≡ true =
-    ap (λ (state : State). serves state (request_of c.args.request)) (sym (c.state.ensures ∙ ap (λ (l : Link). l.state) s.fits.rests.is))
+    let does : serves (terms_of c.args.self.now).reading m.state m.owed (request_of c.args.request) ≡ true =
+    ap (λ (state : State). serves (terms_of c.args.self.now).reading state m.owed (request_of c.args.request)) (sym (c.state.ensures ∙ ap (λ (l : Link). l.state) s.fits.rests.is))
+    ∙ ap (λ (owed : Bool). serves (terms_of c.args.self.now).reading c.state.result owed (request_of c.args.request)) (sym (c.is_owed-owed.ensures ∙ ap (λ (l : Link). l.owed) s.fits.rests.is))
     ∙ sym c.serves.ensures
     ∙ c.if-not-serves.false in
     c.refusal_of_contents.ensures.machine store others m c.in-Data.octets.now s refl

@@ -35,3 +35,6 @@ returns-in-None-clause-cause g c = λ others m s. (c.grant.ensures.reaches other
 
 pub returns-in-None-clause-frames : goal.returns-in-None-clause-frames
 returns-in-None-clause-frames g c = λ others m s. event-rises (terms_of c.args.self.now) s.fits.range m s.fits.sound (requested (request_of c.args.request) (nat_le c.args.slots (used_slots (g.S.Shelf.store c.args.shelf.now))))
+
+pub returns-in-Some-clause-frames : goal.returns-in-Some-clause-frames
+returns-in-Some-clause-frames g c = λ others m s. event-rises (terms_of c.args.self.now) s.fits.range m s.fits.sound (requested (request_of c.args.request) (nat_le c.args.slots (used_slots (g.S.Shelf.store c.args.shelf.now))))

@@ -6,7 +6,7 @@ use Rattle.lapd_link_steps.proofs.entity.Entity.clear.Goals as goal
 
 pub returns-clause-does : goal.returns-clause-does
 returns-clause-does c = λ info.
-    let anew : Does c.args.terms.now info begin_anew c.args.self.now c.tell_clearing.new.told c.begin.new.self (record c.tell_clearing.new.told { started = None; given_up_from = c.min-told.result; released = 127; in_range = _ }) = record {
+    let anew : Does c.args.terms.now info begin_anew c.tell_clearing.new.self c.tell_clearing.new.told c.begin.new.self (record c.tell_clearing.new.told { started = None; given_up_from = c.min-told.result; released = 127; in_range = _ }) = record {
       step = λ messages p fits.
           record {
             fits =
@@ -22,7 +22,7 @@ returns-clause-does c = λ info.
                       ∙ ap (λ n. length messages - n) (sym c.min-told.ensures);
                   whole = λ _. fits.few;
                 };
-            is = ap (λ (l : Link). record (begin_anew (course_of info c.args.self.now c.tell_clearing.new.told p)) { link = l }) c.begin.ensures.link;
+            is = ap (λ (l : Link). record (begin_anew (course_of info c.tell_clearing.new.self c.tell_clearing.new.told p)) { link = l }) c.begin.ensures.link;
           };
     } in
     c.tell_clearing.ensures.does info ▹ anew

@@ -6,6 +6,6 @@ use Rattle.lapd_tei.proofs.terminal.teis.TerminalTeis.start.Goals as goal
 
 pub invariant_of-result : goal.invariant_of-result
 invariant_of-result c =
-    subst (λ (waiting : List Message). IsSound (record { places = c.empty.result; number = c.args.seed; procedure = None; waiting = waiting })) (sym c.new.ensures)
-    (subst (λ (places : Places). IsSound (record { places = places; number = c.args.seed; procedure = None; waiting = [] })) (sym c.empty.ensures)
-    (sound_fresh c.args.terminals c.args.seed c.requires.1 c.ranges.seed.fits))
+    subst (λ (waiting : List Message). IsSound (record { reading = c.args.reading; places = c.empty.result; number = c.args.seed; procedure = None; waiting = waiting })) (sym c.new.ensures)
+    (subst (λ (places : Places). IsSound (record { reading = c.args.reading; places = places; number = c.args.seed; procedure = None; waiting = [] })) (sym c.empty.ensures)
+    (sound_fresh c.args.reading c.args.terminals c.args.seed c.requires.1 c.ranges.seed.fits))

@@ -28888,8 +28888,9 @@ uint32_t lapd_exchange(lapd_card *card, uint32_t line, const uint8_t *in, size_t
 /* What a null pointer to no octets is taken for. */
 static const uint8_t no_octet = 0;
 
-/* What octets say is said by a machine of its own on the stack, as no card is needed. They stand first of what is handed over. */
-enum { MOST_OCTETS = 1029, OCTETS = OTHER, AFTER_OCTETS = OCTETS + 1040 };
+/* What octets say is said by a machine of its own on the stack, as no card is needed. They stand after the fields of a frame, which
+ * lie where each call's structs do. */
+enum { MOST_OCTETS = 1029, FIELDS = OTHER, OCTETS = FIELDS + 16, AFTER_OCTETS = OCTETS + 1040 };
 #define MACHINE_OF(octets) union { own first; u8 room[sizeof(own) + (octets) + BEHIND]; } ALIGNED
 #define MACHINE_IN(of) ((of).room + sizeof(own))
 
@@ -28905,14 +28906,13 @@ static size_t begin(machine *instance, u32 end, const uint8_t *octets, size_t le
 }
 
 uint32_t lapd_frame_read(const uint8_t *octets, size_t length, uint16_t side, lapd_fields *fields) {
-    enum { FIELDS = AFTER_OCTETS, END = FIELDS + 16 };
-    MACHINE_OF(END) of;
+    MACHINE_OF(AFTER_OCTETS) of;
     machine *instance = MACHINE_IN(of);
     if (octets == NULL && length == 0)
         octets = &no_octet;
     if (octets == NULL || fields == NULL)
         return LAPD_WRONG_POINTER;
-    size_t count = begin(instance, END, octets, length);
+    size_t count = begin(instance, AFTER_OCTETS, octets, length);
     u32 status = w2c_lapd_frame_read(instance, OCTETS, count, side, FIELDS);
     if (status == LAPD_OK)
         get_lapd_fields(instance, FIELDS, fields);

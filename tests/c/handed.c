@@ -5,8 +5,8 @@
  * - Configurations: fault_of finds the field, or the reserved place, that the machine's start finds, at each edge and at random, and lapd_image_octets is
  *   what the machine answers.
  * - Octets: a frame or contents of more octets than a call hands over are answered as their first ones are.
- * - Stack: none of that, nor the start of a large card of octets, takes half of the stack in a machine's memory, which is
- *   filled there and looked at afterwards.
+ * - Stack: it is as large as the deepest call takes, and AHEAD octets more. None of that, nor the start of a large card of octets,
+ *   comes to these, which are filled and looked at afterwards.
  */
 #include "lapd.c"
 
@@ -24,19 +24,19 @@ static void fail(const char *what, u32 one, u32 other) {
     exit(1);
 }
 
-/* The stack begins at STACK, which lapd.c has, and goes down to 0; the lower half of it is filled. */
+/* The stack begins at STACK, which lapd.c has, and goes down to 0; its last AHEAD octets are filled. */
 enum { FILL = 0xA5 };
 
 static machine *filled(u64 heap) {
     machine *instance = new_machine(heap, 0);
-    memset(instance, FILL, STACK / 2);
+    memset(instance, FILL, AHEAD);
     return instance;
 }
 
 static void end(machine *instance) {
-    for (u32 i = 0; i < STACK / 2; i++)
+    for (u32 i = 0; i < AHEAD; i++)
         if (instance[i] != FILL)
-            fail("octets of stack", STACK - i, STACK / 2);
+            fail("octets of stack", STACK - i, STACK - AHEAD);
     rattle_dealloc(OWN(instance));
 }
 
